@@ -1,0 +1,4 @@
+pub mod Threes
+pub mod Same
+pub mod Sames
+pub mod Packs

@@ -1,0 +1,9 @@
+pub mod Limits
+pub mod Refusals
+pub mod Currencies
+pub mod Accounts
+pub mod Makers
+pub mod References
+pub mod Keys
+pub mod Blanks
+pub mod Entries
