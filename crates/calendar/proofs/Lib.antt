@@ -1,0 +1,4 @@
+pub mod Steps
+pub mod Months
+pub mod Twos
+pub mod Inverse

@@ -1,0 +1,4 @@
+pub mod Scans
+pub mod Parts
+pub mod Marks
+pub mod Readings
