@@ -1,0 +1,4 @@
+pub mod Goings
+pub mod Entries
+pub mod Tallies
+pub mod Moves

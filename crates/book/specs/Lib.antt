@@ -1,0 +1,3 @@
+pub mod Judging
+pub mod Sizes
+pub mod Whole
