@@ -1,0 +1,4 @@
+pub mod Places
+pub mod Comings
+pub mod Keeps
+pub mod Moves

@@ -1,0 +1,4 @@
+pub mod Slices
+pub mod Tags
+pub mod Marks
+pub mod Cuts

@@ -1,0 +1,4 @@
+pub mod Signs
+pub mod Numbers
+pub mod Balances
+pub mod Movements
