@@ -1,0 +1,3 @@
+pub mod Denied
+pub mod Parts
+pub mod Laying

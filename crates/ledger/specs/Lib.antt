@@ -1,0 +1,5 @@
+pub mod Denials
+pub mod Records
+pub mod Intakes
+pub mod Takings
+pub mod Groupings

@@ -1,0 +1,4 @@
+pub mod Fills
+pub mod Finds
+pub mod Partners
+pub mod Settles

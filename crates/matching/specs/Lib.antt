@@ -1,0 +1,4 @@
+pub mod Rules
+pub mod Grouping
+pub mod Matching
+pub mod Folding
