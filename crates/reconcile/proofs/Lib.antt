@@ -1,0 +1,3 @@
+pub mod Chaining
+pub mod Denying
+pub mod Reading
