@@ -1,0 +1,3 @@
+// What the library answers on worked and damaged texts.
+#[cfg(test)]
+mod tests;

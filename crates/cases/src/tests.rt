@@ -1,0 +1,9 @@
+mod asked;
+mod book_lines;
+mod fields;
+mod frame;
+mod reports;
+mod sizes;
+mod statement_lines;
+mod statement_order;
+mod texts;
