@@ -1,4 +1,6 @@
 // Days and the dates that write them.
+#![tactic(auto)]
+
 ghost use Rattle.std.specs.Prelude.{◌≡◌, ◌+◌, ◌/◌, ◌%◌, ◌<◌, ◌≤◌, true, length, Some};
 ghost use Rattle.domain.specs.Makers.{as_day};
 ghost use Rattle.fields.specs.Runs.{all_digits};

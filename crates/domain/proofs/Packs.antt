@@ -1,9 +1,9 @@
 -- The step of packing.
-use Rattle.std.proofs.Common.{◌≡◌, ℕ, zero, suc, ◌+◌, ◌-◌, ◌*◌, ◌^◌, ◌<◌, ◌≤◌, Bool, true, false, cond, List, [], ◌∷◌, length, get_or, drop, sym, refl, ap, ◌∙◌, pow-suc, add-one, arith, lit<}
+use Rattle.std.proofs.Common.{◌≡◌, ℕ, suc, ◌+◌, ◌*◌, ◌^◌, ◌<◌, ◌≤◌, false, List, length, get_or, drop, sym, ap, ◌∙◌, pow-suc, add-one, arith, lit<}
 use native.Mathlib.Nat.{pow-le-pow_right}
-use Rattle.std.proofs.lemmas.List.{at_drop_more, at_drop_all, drop_all, get_or_past}
+use Rattle.std.proofs.lemmas.List.{at_drop_more, at_drop_all, drop_all}
 use Rattle.std.proofs.lemmas.Bool.Decides.{nat_tests}
-use Rattle.domain.specs.References.{packed, plain, is_plain}
+use Rattle.domain.specs.References.{packed, plain}
 
 -- one byte more
 pub pack_byte : (k n : ℕ) (bs : List ℕ) (i : ℕ) → i < length bs → packed (suc k) n (drop i bs) ≡ packed k (n * 256 + get_or bs i 0) (drop (i + 1) bs)

@@ -1,10 +1,9 @@
 -- Values that agree in their numbers are equal, since a fact beside a number has one proof; and what a maker makes.
-use Rattle.std.proofs.Common.{◌≡◌, ℕ, ◌≤◌, Bool, true, false, ◌&&◌, T, leb, List, ℤ, pos, neg_ℤ, ◌≤ℤ◌, Some, None, Option, sym, refl, ap, ◌∙◌, subst, le→leb, leb→le}
+use Rattle.std.proofs.Common.{◌≡◌, ℕ, ◌≤◌, Bool, true, false, ◌&&◌, T, List, ℤ, Some, None, sym, refl, ap, ◌∙◌, subst, le→leb, leb→le}
 use mathlib.Core.Logic.{∥∥₁_prop}
 use mathlib.Core.Bool.{Bool-set}
 use native.Mathlib.Bridge.{le_prop}
-use denote.Struct.Props.{≤ℤ_prop}
-use lib.Signed.{le_z}
+use Rattle.std.proofs.Props.{props}
 use Rattle.domain.specs.Limits.{InAmount}
 use Rattle.std.proofs.lemmas.Bool.{both_ways, false≢true}
 use Rattle.domain.specs.Currencies.{is_currency}
@@ -23,7 +22,8 @@ day_same a b e =
 pub amount_same : (a b : Amount) → a.minor ≡ b.minor → a ≡ b
 amount_same a b e =
     let P : ℤ → Type 0 = λ n. (h : InAmount n) → ◌≡◌ {A = Amount} a (record { minor = n; within = h }) in
-    subst P e (λ h. λ i. record { minor = a.minor; within = (≤ℤ_prop a.within.0 h.0 i, ≤ℤ_prop a.within.1 h.1 i) }) b.within
+    let one : IsProp (InAmount a.minor) = hlevel props in
+    subst P e (λ h. ap (λ (w : InAmount a.minor). record { minor = a.minor; within = w }) (one a.within h)) b.within
 
 pub key_same : (a b : Key) → a.high ≡ b.high → a.low ≡ b.low → a ≡ b
 key_same a b e f =

@@ -1,5 +1,5 @@
 -- What a key says.
-use Rattle.std.specs.Prelude.{ℕ, ◌/◌, ◌%◌, Bool, true, false, cond, ◌&&◌, List, [], ◌∷◌, ◌++◌, ◌==◌}
+use Rattle.std.specs.Prelude.{ℕ, ◌/◌, ◌%◌, Bool, cond, ◌&&◌, List, [], ◌∷◌, ◌++◌, ◌==◌}
 use Rattle.domain.specs.declared.key.Key.{Key}
 
 abbrev pub is_blank_key : Key → Bool

@@ -1,4 +1,6 @@
 // The values that statements, ledgers and reports are made of.
+#![tactic(auto)]
+
 pub mod account;
 pub mod amount;
 pub mod blank;

@@ -1,12 +1,12 @@
 -- Numbers of so many digits, and amounts in minor units, are read exactly where a text writes one.
-use Rattle.std.proofs.Common.{◌≡◌, ℕ, ◌+◌, ◌<◌, ◌≤◌, Bool, true, false, cond, ◌&&◌, eqb, leb, ◌⊎◌, List, [], ◌∷◌, length, get_or, drop, ℤ, pos, neg_ℤ, Some, None, Option, sym, refl, ap, ◌∙◌, subst, inl, inr, arith}
-use Rattle.std.proofs.lemmas.Bool.{and_parts, and_from, cases_Bool, cond-false, le-leb, leb-true, eqb-true, eqb-false, eq-eqb, ne_eqb}
+use Rattle.std.proofs.Common.{◌≡◌, ℕ, true, cond, eqb, leb, List, [], ◌∷◌, length, get_or, pos, neg_ℤ, Some, None, Option, sym, refl, ap, ◌∙◌, subst, inl, inr, arith}
+use Rattle.std.proofs.lemmas.Bool.{and_parts, and_from, cases_Bool, cond-false, le-leb, leb-true, eqb-true, eqb-false, ne_eqb}
 use Rattle.domain.specs.declared.amount.Amount.{Amount}
 use Rattle.domain.specs.Makers.{as_amount}
 use Rattle.domain.proofs.Same.{as_amount_lem}
 use Rattle.fields.specs.Runs.{is_digit, all_digits, is_numeral, numeral_of, worth}
 use Rattle.fields.specs.Units.{minus_of, plus_of, units_of}
-use Rattle.fields.specs.Written.{place_value, Writes, ReadsNumber, Units, ReadsUnits}
+use Rattle.fields.specs.Written.{Writes, Units, ReadsUnits}
 use Rattle.fields.proofs.Parts.{numeral_parts, numeral_some, numeral_none}
 use Rattle.fields.proofs.Readings.{amount_minor}
 use Rattle.fields.proofs.Marks.{units_minus, units_plus}
@@ -30,12 +30,8 @@ writes k text n e = elim (cases_Bool (is_numeral k text)) [
   | inr f ↦ absurd (let s = numeral_none k text f ∙ e in let z : ◌≡◌ {A = ℕ} 0 1 = cc in omega arith)
 ]
 
-by_number : (k : ℕ) (text : List ℕ) (o : Option ℕ) → numeral_of k text ≡ o → ReadsNumber k text o
-by_number k text (Some n) e = writes k text n e
-by_number k text None e = λ n w. let s = numeral_of_lem k text n w in let z : ◌≡◌ {A = ℕ} 0 1 = cc in omega arith
-
-pub reads_number : (k : ℕ) (text : List ℕ) → ReadsNumber k text (numeral_of k text)
-reads_number k text = by_number k text (numeral_of k text) refl
+pub no_number : (k : ℕ) (text : List ℕ) (n : ℕ) → numeral_of k text ≡ None → Writes k text n → ⊥
+no_number k text n e w = let s = numeral_of_lem k text n w in let z : ◌≡◌ {A = ℕ} 0 1 = cc in omega arith
 
 -- amounts in minor units
 no_minus : (text : List ℕ) (n : ℕ) → Writes 14 text n → get_or text 0 0 ≡ 45 → ⊥

@@ -1,5 +1,5 @@
 -- What digits write, by their places.
-use Rattle.std.proofs.Common.{◌≡◌, ℕ, ◌+◌, ◌-◌, ◌*◌, ◌^◌, List, [], ◌∷◌, length, sym, refl, ap, ◌∙◌, pow-suc, arith}
+use Rattle.std.proofs.Common.{◌≡◌, ℕ, ◌+◌, ◌-◌, ◌*◌, ◌^◌, List, [], ◌∷◌, length, sym, ap, ◌∙◌, pow-suc, arith}
 use Rattle.fields.specs.Runs.{worth_after, worth}
 use Rattle.fields.specs.Written.{place_value}
 

@@ -1,10 +1,10 @@
 -- The first test that holds, of tests in the order of their numbers, has the smallest number that fits.
-use Rattle.std.proofs.Common.{◌≡◌, ℕ, ◌<◌, ◌≤◌, Bool, true, false, cond, ◌&&◌, eqb, ltb, ◌⊎◌, List, [], ◌∷◌, Some, None, Option, sym, refl, ap, ◌∙◌, subst, inl, inr, arith}
-use Rattle.std.proofs.lemmas.Bool.{and_parts, both_ways, ltb-true, cases_Bool}
+use Rattle.std.proofs.Common.{◌≡◌, ℕ, ◌<◌, Bool, true, false, cond, eqb, ltb, List, [], ◌∷◌, Some, None, Option, sym, refl, ap, ◌∙◌, inl, inr, arith}
+use Rattle.std.proofs.lemmas.Bool.{and_parts, both_ways, ltb-true}
 use Rattle.domain.specs.declared.refusal.Refusal.{Refusal}
 use Rattle.domain.specs.declared.refusal.Refusal.TheVariants.{Form, Misplaced, NoSuchDay, BadAmount, BadCurrency, BadNumber, Unbalanced, WrongCount, TooMuch, EndsEarly, BadTable, NumberRepeated, WrongOpening, DayBefore, NoRoom, PostingUnbalanced, BadList, NoSuchItem, NotOutstanding, SumsDiffer, NoSuchSet, NoSuchGroup, OutputShort}
 use Rattle.domain.specs.Refusals.{number_of}
-use Rattle.judging.specs.Least.{Least, Judged, Holds, first_that, refused_if, ascends, JudgingStands}
+use Rattle.judging.specs.Least.{Judged, Holds, first_that, refused_if, ascends, JudgingStands}
 
 -- a refusal by its number
 by_number : ℕ → Refusal

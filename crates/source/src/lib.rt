@@ -1,4 +1,6 @@
 // Where entries come from: the interface that every statement format meets, and that all else is proved against.
+#![tactic(auto)]
+
 ghost use Rattle.std.specs.Prelude.{◌≡◌};
 ghost use Rattle.domain.specs.declared.entry.Side.{Side};
 ghost use Rattle.source.specs.Statement.{Statement, Lawful, HeadOf, first_of, moved};

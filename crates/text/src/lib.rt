@@ -1,4 +1,6 @@
 // Lines, and texts that are read line by line.
+#![tactic(auto)]
+
 ghost use Rattle.std.specs.Prelude.{◌≡◌, ℕ, ◌<◌, ◌≤◌, Bool, List, length, take, drop, IfSome, IfOk, Result};
 ghost use Rattle.domain.specs.declared.refusal.Refusal.{Refusal};
 ghost use Rattle.text.specs.Lines.{from, content_of, is_formed};

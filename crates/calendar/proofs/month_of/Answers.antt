@@ -7,14 +7,14 @@ use Rattle.calendar.proofs.month_of.Goals as goal
 pub loop-k-init : goal.loop-k-init
 loop-k-init c = begin c.args.n
 
-pub returns-then-n-first-day : goal.returns-then-n-first-day
-returns-then-n-first-day c =
-    let b : c.args.n < first_of c.loop-k.k + length_of c.loop-k.k = omega (arith, c.if-n-first-day.true, c.first-day.ensures, first_next c.loop-k.k) in
+pub returns-then-n-first_day : goal.returns-then-n-first_day
+returns-then-n-first_day c =
+    let b : c.args.n < first_of c.loop-k.k + length_of c.loop-k.k = omega (arith, c.if-n-first_day.true, c.first_day.ensures, first_next c.loop-k.k) in
     let w : c.loop-k.k < 1200 = omega arith in
     record { is = month_is c.args.n c.loop-k.k (record { within = w; from = c.loop-k.invariant; before = b }); within = w; from = c.loop-k.invariant; before = b }
 
 pub loop-k-preserved : goal.loop-k-preserved
-loop-k-preserved c = omega (arith, c.if-n-first-day.false, c.first-day.ensures)
+loop-k-preserved c = omega (arith, c.if-n-first_day.false, c.first_day.ensures)
 
 pub returns : goal.returns
 returns c =

@@ -6,14 +6,14 @@ use Rattle.fields.proofs.scaled.Goals as goal
 same : (a b p q x y m n : ℕ) → a ≡ x → p ≡ m → b ≡ y → q ≡ n → a * p + b * q ≡ x * m + y * n
 same a b p q x y m n e f g h = cc
 
-pub overflow-mul-result : goal.overflow-mul-result
-overflow-mul-result c =
+pub overflow_mul-result : goal.overflow_mul-result
+overflow_mul-result c =
     let a = below c.worth.result (length c.args.whole.now) 14 (omega arith) c.worth.ensures.small in
     let h = product c.worth.result c.power.result (omega arith) c.power.ensures.small in
     search rules
 
-pub overflow-add-result : goal.overflow-add-result
-overflow-add-result c =
+pub overflow_add-result : goal.overflow_add-result
+overflow_add-result c =
     let a = below c.worth.result (length c.args.whole.now) 14 (omega arith) c.worth.ensures.small in
     let h = product c.worth.result c.power.result (omega arith) c.power.ensures.small in
     let b = below c.worth-2.result (length c.args.part.now) 14 (omega arith) c.worth-2.ensures.small in

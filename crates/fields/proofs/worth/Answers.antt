@@ -4,14 +4,14 @@ use Rattle.fields.specs.Runs.{worth_after}
 use Rattle.fields.proofs.Scans.{worth_more, below, grown, digit_at}
 use Rattle.fields.proofs.worth.Goals as goal
 
-pub overflow-mul-w : goal.overflow-mul-w
-overflow-mul-w c = let b = below c.loop-d.w c.loop-d.d-index 14 (omega arith) c.loop-d.invariant.1 in search rules
+pub overflow_mul-w : goal.overflow_mul-w
+overflow_mul-w c = let b = below c.loop-d.w c.loop-d.d-index 14 (omega arith) c.loop-d.invariant.1 in search rules
 
-pub overflow-sub-w : goal.overflow-sub-w
-overflow-sub-w c = (digit_at c.args.ds.now c.loop-d.d-index (omega arith) c.loop-d.invariant.2).low
+pub overflow_sub-w : goal.overflow_sub-w
+overflow_sub-w c = (digit_at c.args.ds.now c.loop-d.d-index (omega arith) c.loop-d.invariant.2).low
 
-pub overflow-add-w : goal.overflow-add-w
-overflow-add-w c =
+pub overflow_add-w : goal.overflow_add-w
+overflow_add-w c =
     let g = digit_at c.args.ds.now c.loop-d.d-index (omega arith) c.loop-d.invariant.2 in
     let b = below c.loop-d.w c.loop-d.d-index 14 (omega arith) c.loop-d.invariant.1 in
     search rules

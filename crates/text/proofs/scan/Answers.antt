@@ -1,4 +1,4 @@
-use Rattle.std.proofs.Common.{◌≡◌, ◌+◌, sym, ap, ◌∙◌, arith}
+use Rattle.std.proofs.Common.{◌+◌, sym, ap, ◌∙◌, arith}
 use Rattle.text.proofs.Lining.{onward, scan_line, scan_end}
 use Rattle.text.proofs.scan.Goals as goal
 
@@ -28,6 +28,6 @@ pub returns : goal.returns
 returns g c =
     let r = g.S.Reading in
     record {
-      is = c.finish.ensures.is ∙ sym (scan_end r.stepped r.complete c.args.text.now c.loop-lf.at c.loop-lf.state (sym c.in-default.ensures.is)) ∙ c.loop-lf.invariant.0;
+      is = c.finish.ensures.is ∙ sym (scan_end r.stepped r.complete c.args.text.now c.loop-lf.at c.loop-lf.state (sym c.in_default.ensures.is)) ∙ c.loop-lf.invariant.0;
       again = c.finish.ensures.again;
     }

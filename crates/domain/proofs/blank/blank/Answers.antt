@@ -1,4 +1,4 @@
-use Rattle.std.proofs.Common.{◌≡◌, refl, ap, ◌∙◌}
+use Rattle.std.proofs.Common.{◌≡◌, refl}
 use Rattle.domain.specs.declared.amount.Amount.{Amount}
 use Rattle.domain.specs.declared.day.Day.{Day}
 use Rattle.domain.specs.declared.key.Key.{Key}
@@ -16,4 +16,4 @@ same : (v d : Day) (a : Amount) (k : Key) → v ≡ day_zero → d ≡ day_zero 
 same v d a k e f g h = cc
 
 pub returns : goal.returns
-returns c = same _ _ _ _ (day_same _ _ refl) (day_same _ _ refl) (amount_same _ _ refl) c.no-key.ensures
+returns c = same _ _ _ _ (day_same _ _ refl) (day_same _ _ refl) (amount_same _ _ refl) c.no_key.ensures

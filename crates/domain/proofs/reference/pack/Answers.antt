@@ -1,14 +1,14 @@
-use Rattle.std.proofs.Common.{◌≡◌, ℕ, suc, ◌+◌, ◌-◌, ◌*◌, List, drop, sym, ap, ◌∙◌, arith, rules}
+use Rattle.std.proofs.Common.{◌≡◌, ℕ, suc, ◌+◌, ◌-◌, ◌*◌, drop, sym, ap, ◌∙◌, arith, rules}
 use Rattle.domain.specs.References.{packed}
 use Rattle.domain.proofs.Packs.{pack_byte, pack_zero, below_eight, grown}
 use Rattle.domain.proofs.reference.pack.Goals as goal
 use Rattle.domain.proofs.reference.pack.Goals.{then-i-bytes, else-i-bytes}
 
-pub overflow-mul-n : goal.overflow-mul-n
-overflow-mul-n c = let b = below_eight c.loop-i.n c.loop-i.i (omega arith) c.loop-i.invariant.1 in search rules
+pub overflow_mul-n : goal.overflow_mul-n
+overflow_mul-n c = let b = below_eight c.loop-i.n c.loop-i.i (omega arith) c.loop-i.invariant.1 in search rules
 
-pub overflow-add-n : goal.overflow-add-n
-overflow-add-n c = let b = below_eight c.loop-i.n c.loop-i.i (omega arith) c.loop-i.invariant.1 in search rules
+pub overflow_add-n : goal.overflow_add-n
+overflow_add-n c = let b = below_eight c.loop-i.n c.loop-i.i (omega arith) c.loop-i.invariant.1 in search rules
 
 pub loop-i-preserved : goal.loop-i-preserved
 loop-i-preserved c =

@@ -5,7 +5,7 @@ use Rattle.matching.proofs.Finds.{pass_some, pass_none}
 use Rattle.matching.proofs.Partners.{original_is}
 use Rattle.matching.proofs.Settles.{none_to_fold}
 use Rattle.matching.proofs.grouping.fold_all.Goals as goal
-use Rattle.matching.proofs.grouping.fold_all.Goals.{in-Some, in-default}
+use Rattle.matching.proofs.grouping.fold_all.Goals.{in-Some, in_default}
 
 pub join-requires : goal.join-requires
 join-requires c =
@@ -13,9 +13,9 @@ join-requires c =
 
 pub loop-i-preserved : goal.loop-i-preserved
 loop-i-preserved c =
-    elim c.match-original-of.branch [
+    elim c.match-original_of.branch [
       | in-Some w ↦ pass_some original_of c.loop-i.i c.args.items.now _ _ _ w.in-Some.j _ _ c.loop-i.invariant w.in-Some.ensures w.items-is w.join.ensures w.groups-is
-      | in-default w ↦ pass_none original_of c.loop-i.i c.args.items.now _ _ _ _ c.loop-i.invariant w.in-default.ensures w.items-is w.groups-is
+      | in_default w ↦ pass_none original_of c.loop-i.i c.args.items.now _ _ _ _ c.loop-i.invariant w.in_default.ensures w.items-is w.groups-is
     ]
 
 pub returns : goal.returns

@@ -5,7 +5,7 @@ use Rattle.matching.proofs.Finds.{pass_some, pass_none}
 use Rattle.matching.proofs.Partners.{partner_is}
 use Rattle.matching.proofs.Settles.{none_to_pair}
 use Rattle.matching.proofs.grouping.match_all.Goals as goal
-use Rattle.matching.proofs.grouping.match_all.Goals.{in-Some, in-default}
+use Rattle.matching.proofs.grouping.match_all.Goals.{in-Some, in_default}
 
 pub join-requires : goal.join-requires
 join-requires g c =
@@ -14,9 +14,9 @@ join-requires g c =
 pub loop-i-preserved : goal.loop-i-preserved
 loop-i-preserved g c =
     let find = partner_of (g.R.MatchRule.permits c.args.rule.now) in
-    elim c.match-partner-of.branch [
+    elim c.match-partner_of.branch [
       | in-Some w ↦ pass_some find c.loop-i.i c.args.items.now _ _ _ w.in-Some.j _ _ c.loop-i.invariant w.in-Some.ensures w.items-is w.join.ensures w.pairs-is
-      | in-default w ↦ pass_none find c.loop-i.i c.args.items.now _ _ _ _ c.loop-i.invariant w.in-default.ensures w.items-is w.pairs-is
+      | in_default w ↦ pass_none find c.loop-i.i c.args.items.now _ _ _ _ c.loop-i.invariant w.in_default.ensures w.items-is w.pairs-is
     ]
 
 pub returns : goal.returns

@@ -6,13 +6,13 @@ use Rattle.domain.specs.declared.refusal.Refusal.TheVariants.{BadAmount}
 use Rattle.domain.proofs.Same.{as_amount_lem, no_amount, amount_within}
 use Rattle.domain.proofs.amount.Amount.new.Goals as goal
 
-pub returns-then-not-is-amount : goal.returns-then-not-is-amount
-returns-then-not-is-amount c =
+pub returns-then-not-is_amount : goal.returns-then-not-is_amount
+returns-then-not-is_amount c =
     let e : to_z w64 (of_z w64 c.args.raw) ≡ c.args.raw = to_z-of_z w64 c.args.raw c.ranges.raw in
-    ap (λ o. ok_or o BadAmount) (sym (no_amount c.args.raw (sym (c.if-not-is-amount.ensures ∙ ap is_amount e))))
+    ap (λ o. ok_or o BadAmount) (sym (no_amount c.args.raw (sym (c.if-not-is_amount.ensures ∙ ap is_amount e))))
 
-pub invariant-of-result : goal.invariant-of-result
-invariant-of-result c = (amount_within _ (sym c.if-not-is-amount.ensures), tt)
+pub invariant_of-result : goal.invariant_of-result
+invariant_of-result c = record { within = amount_within _ (sym c.if-not-is_amount.ensures) }
 
 pub returns : goal.returns
 returns c =
