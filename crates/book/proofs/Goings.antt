@@ -1,5 +1,5 @@
 -- What it takes that a line is not refused, and what follows.
-use Rattle.std.proofs.Common.{◌≡◌, ℕ, ◌+◌, ◌*◌, ◌<◌, ◌≤◌, Bool, true, false, cond, eqb, ltb, List, ℤ, pos, ◌+ℤ◌, IfOk, Some, None, Ok, Err, Option, Result, sym, refl, ap, ◌∙◌, subst, arith, w64, SFits}
+use Rattle.std.proofs.Common.{◌≡◌, ℕ, ◌+◌, ◌<◌, Bool, true, false, ◌+ℤ◌, IfOk, Some, None, Ok, Err, Option, Result, sym, refl, subst, arith, w64, SFits}
 use Rattle.std.proofs.lemmas.Int.{ints}
 use Rattle.std.proofs.lemmas.Bool.{ltb-true}
 use Rattle.domain.specs.declared.amount.Amount.{Amount}
@@ -12,10 +12,9 @@ use Rattle.book_lines.specs.declared.line.Line.{Line}
 use Rattle.book_lines.specs.declared.line.Line.TheVariants.{Opens, Enters, Closes}
 use Rattle.book_lines.specs.declared.line.Opening.{Opening}
 use Rattle.book_lines.specs.declared.line.Row.{Row}
-use Rattle.book_lines.specs.Reading.{line_of}
 use Rattle.book.specs.declared.state.Stage.TheVariants.{Within, Done}
 use Rattle.book.specs.declared.state.State.{State}
-use Rattle.book.specs.Judging.{is_start, is_within, is_own, demand, given, opened_of, entered_of, closed_of, judged_of, step_of}
+use Rattle.book.specs.Judging.{is_start, is_within, demand, given, opened_of, entered_of, closed_of, judged_of}
 use Rattle.book.specs.Sizes.{Sound}
 
 never_ok : {A : Type 0} (why : Refusal) (u : A) → ◌≡◌ {A = Result A Refusal} (Err why) (Ok u) → ⊥

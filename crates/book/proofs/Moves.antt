@@ -1,5 +1,5 @@
 -- A reader that is made, and one entry on.
-use Rattle.std.proofs.Common.{◌≡◌, ℕ, ◌+◌, ◌-◌, ◌<◌, ◌≤◌, List, [], ◌∷◌, length, ℤ, ◌+ℤ◌, Some, None, Ok, Err, Option, Result, unwrap_or, sym, refl, ap, ◌∙◌, subst, arith, w64, SFits, to_z, of_z}
+use Rattle.std.proofs.Common.{◌≡◌, ℕ, ◌-◌, ◌≤◌, List, [], ◌∷◌, length, ℤ, ◌+ℤ◌, Some, None, Ok, Err, Option, unwrap_or, sym, ap, ◌∙◌, subst, arith, w64, SFits, to_z, of_z}
 use Rattle.std.proofs.lemmas.Int.{ints, to_z-of_z}
 use Rattle.std.proofs.lemmas.Bool.{leb-true}
 use Rattle.domain.specs.declared.amount.Amount.{Amount}
@@ -11,7 +11,7 @@ use Rattle.domain.specs.Blanks.{zero_amount, day_zero}
 use Rattle.domain.specs.Accounts.{as_digits}
 use Rattle.domain.specs.Makers.{as_currency}
 use Rattle.domain.proofs.Same.{as_day_lem, as_amount_lem}
-use Rattle.source.specs.Statement.{Statement, Lawful, first, first_of, rest, onward, moved}
+use Rattle.source.specs.Statement.{Statement, Lawful, first, first_of, moved}
 use Rattle.source.proofs.Sums.{lawful_fits, lawful_moved}
 use Rattle.text.specs.Scanning.{scan_from}
 use Rattle.book.specs.declared.cash_book.CashBook.{CashBook}

@@ -1,5 +1,5 @@
 -- What has been read of a text agrees with the entries in its lines.
-use Rattle.std.proofs.Common.{◌≡◌, ℕ, ◌+◌, ◌<◌, ◌≤◌, Bool, true, false, cond, ◌&&◌, eqb, leb, List, [], ◌∷◌, ◌++◌, length, ℤ, pos, ◌+ℤ◌, Some, None, Ok, Err, Option, Result, sym, refl, ap, ◌∙◌, subst, arith}
+use Rattle.std.proofs.Common.{◌≡◌, ℕ, ◌+◌, ◌≤◌, Bool, true, false, cond, ◌&&◌, eqb, leb, List, [], ◌∷◌, ◌++◌, length, pos, ◌+ℤ◌, Some, None, Ok, Err, Option, Result, sym, refl, ap, ◌∙◌, subst, arith}
 use Rattle.std.proofs.lemmas.List.{append-nil, append_assoc, length_push}
 use Rattle.std.proofs.lemmas.Int.{ints}
 use Rattle.std.proofs.lemmas.Bool.{and_parts, both_ways, leb-true, false≢true, true≢false}
@@ -10,17 +10,17 @@ use Rattle.domain.specs.declared.refusal.Refusal.{Refusal}
 use Rattle.domain.specs.declared.refusal.Refusal.TheVariants.{Form, EndsEarly}
 use Rattle.domain.specs.Limits.{is_number}
 use Rattle.domain.proofs.Sames.{decides_same_int}
-use Rattle.source.specs.Statement.{Statement, Lawful, total}
+use Rattle.source.specs.Statement.{Lawful, total}
 use Rattle.source.proofs.Sums.{total-++}
 use Rattle.text.specs.Lines.{split, content_of}
-use Rattle.text.specs.Scanning.{scan_of, scan_from, finish_of}
+use Rattle.text.specs.Scanning.{scan_of, scan_from}
 use Rattle.book_lines.specs.declared.line.Line.{Line}
-use Rattle.book_lines.specs.declared.line.Line.TheVariants.{Opens, Enters, Closes}
+use Rattle.book_lines.specs.declared.line.Line.TheVariants.{Enters}
 use Rattle.book_lines.specs.Reading.{line_of, entry_of, entry_by, entry_in}
 use Rattle.book.specs.declared.state.Stage.{Stage}
 use Rattle.book.specs.declared.state.Stage.TheVariants.{Start, Within, Done}
 use Rattle.book.specs.declared.state.State.{State}
-use Rattle.book.specs.Judging.{is_start, is_within, is_done, begin, given, judged_of, step_of}
+use Rattle.book.specs.Judging.{is_start, is_within, is_done, begin, judged_of, step_of}
 use Rattle.book.specs.Whole.{place_of, with_entry, entries_of, entries_from, statement_of}
 use Rattle.book.proofs.Goings.{Goes, opens, enters, closes, goes, was_given}
 

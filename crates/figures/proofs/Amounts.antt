@@ -1,7 +1,7 @@
 -- The longest run, cut at its comma, is what the text begins with; and the other way round.
-use Rattle.std.proofs.Common.{◌≡◌, ℕ, zero, suc, ◌+◌, ◌-◌, ◌*◌, ◌^◌, ◌<◌, ◌≤◌, Bool, true, false, cond, ◌&&◌, ◌||◌, T, eqb, leb, ◌⊎◌, ◌↔◌, List, [], ◌∷◌, ◌++◌, length, take, drop, ℤ, pos, Some, None, Option, sym, refl, ap, ◌∙◌, subst, inl, inr, arith}
+use Rattle.std.proofs.Common.{◌≡◌, ℕ, suc, ◌+◌, ◌-◌, ◌*◌, ◌^◌, ◌≤◌, Bool, true, false, ◌&&◌, T, eqb, leb, List, [], ◌∷◌, ◌++◌, length, take, drop, ℤ, pos, Some, None, Option, sym, refl, ap, ◌∙◌, subst, inl, inr, arith}
 use Rattle.std.proofs.lemmas.List.{append_assoc, take-append-drop, take_at, length-append}
-use Rattle.std.proofs.lemmas.Bool.{and_parts, and_from, cases_Bool, cond-true, cond-false, or_right, or_parts, eqb-true, eqb-false, ne_eqb, eq-eqb, le-leb, leb-true, both_ways}
+use Rattle.std.proofs.lemmas.Bool.{and_parts, and_from, cases_Bool, cond-true, cond-false, or_right, eqb-true, ne_eqb, eq-eqb, le-leb, leb-true}
 use Rattle.domain.specs.declared.amount.Amount.{Amount}
 use Rattle.domain.specs.declared.digits.Digits.{Digits}
 use Rattle.domain.specs.Accounts.{digit_count}
@@ -11,7 +11,7 @@ use Rattle.domain.proofs.Same.{as_amount_lem}
 use Rattle.fields.specs.Commas
 use Rattle.fields.specs.Commas.{comma_amount, run_of, commas, is_formed, minor_of, with_length}
 use Rattle.fields.specs.Runs.{is_digit, all_digits, in_run, all_in_run, run_length, worth}
-use Rattle.fields.proofs.Parts.{Formed, formed_parts, digits_before, digits_behind, all_in_run_lem, length_run, take_before, drop_before, before_within}
+use Rattle.fields.proofs.Parts.{formed_parts, digits_before, digits_behind, all_in_run_lem, length_run}
 use Rattle.fields.proofs.Readings.{read}
 use Rattle.figures.specs.Amounts.{Ends, Begins, AmountsStand}
 

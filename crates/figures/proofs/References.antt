@@ -1,12 +1,12 @@
 -- Keys and the references that they come from.
-use Rattle.std.proofs.Common.{◌≡◌, ℕ, zero, suc, ◌+◌, ◌-◌, ◌<◌, ◌≤◌, Bool, true, false, cond, ◌&&◌, ◌||◌, leb, ◌⊎◌, ◌↔◌, List, [], ◌∷◌, ◌++◌, length, take, drop, Some, None, Option, sym, refl, ap, ◌∙◌, inl, inr, arith}
+use Rattle.std.proofs.Common.{◌≡◌, ℕ, zero, suc, ◌≤◌, true, false, cond, leb, ◌⊎◌, List, [], ◌∷◌, ◌++◌, length, take, drop, Some, None, sym, refl, ap, ◌∙◌, inl, inr, arith}
 use mathlib.Core.Logic.{∥∥₁_map}
-use Rattle.std.proofs.lemmas.List.{take_all, drop_all, length-drop, append-nil, take-append-drop}
-use Rattle.std.proofs.lemmas.Bool.{and_parts, leb-true, cases_Bool, cases_lt, cond-true, cond-false, both_ways, false≢true}
+use Rattle.std.proofs.lemmas.List.{take_all, length-drop, append-nil, take-append-drop}
+use Rattle.std.proofs.lemmas.Bool.{and_parts, leb-true, cases_Bool, cases_lt, cond-true, cond-false}
 use Rattle.domain.specs.declared.key.Key.{Key}
 use Rattle.domain.specs.Keys.{bytes_of, unpacked, until_zero, printed_key}
-use Rattle.domain.specs.Makers.{as_key, passes}
-use Rattle.domain.specs.References.{plain, is_plain, packed, is_reference, is_blank, high_of, low_of, same_bytes}
+use Rattle.domain.specs.Makers.{as_key}
+use Rattle.domain.specs.References.{plain, is_plain, packed, is_reference, is_blank, high_of, low_of}
 use Rattle.domain.proofs.Same.{as_key_lem, no_key}
 use Rattle.figures.specs.Keyed.{KeysStand}
 use Rattle.figures.proofs.Bytes.{padded, plain_low, unpacked_packed, until_padded, until_short}

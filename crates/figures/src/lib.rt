@@ -1,4 +1,6 @@
 // Theorems over the definitions that the contracts of the values cite.
+#![tactic(auto)]
+
 ghost use Rattle.figures.specs.Amounts.{AmountsStand};
 ghost use Rattle.figures.specs.Keyed.{KeysStand};
 

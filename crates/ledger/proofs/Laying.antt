@@ -1,11 +1,11 @@
 -- Entries laid over a table one at a time, or all at once; and what a source means when nothing remains.
-use Rattle.std.proofs.Common.{◌≡◌, ℕ, ◌+◌, ◌<◌, ◌≤◌, List, [], ◌∷◌, ◌++◌, map, length, take, drop, set, ℤ, Some, None, sym, refl, ap, ◌∙◌, append_assoc, add-zero, arith, length-set, take-append-drop}
+use Rattle.std.proofs.Common.{◌≡◌, ℕ, ◌+◌, ◌<◌, ◌≤◌, List, [], ◌∷◌, length, take, set, None, sym, refl, ap, ◌∙◌, append_assoc, add-zero, arith, length-set, take-append-drop}
 use Rattle.std.proofs.lemmas.List.{take_more_set, drop-set-lt}
 use Rattle.domain.specs.declared.entry.Side.{Side}
 use Rattle.domain.specs.declared.entry.Entry.{Entry}
 use Rattle.domain.specs.declared.entry.Item.{Item}
 use Rattle.std.proofs.lemmas.Int.{ints}
-use Rattle.source.specs.Statement.{Statement, Lawful, total, first, first_of, moved, rest}
+use Rattle.source.specs.Statement.{Statement, Lawful, total, first, moved, rest}
 use Rattle.ledger.specs.Intakes.{outstanding_item}
 use Rattle.ledger.specs.Takings.{laid, spent}
 

@@ -1,5 +1,5 @@
 -- Folding and matching the items that a ledger uses.
-use Rattle.std.specs.Prelude.{ℕ, List, ◌++◌, take, drop}
+use Rattle.std.specs.Prelude.{List, ◌++◌, take, drop}
 use Rattle.domain.specs.declared.entry.Item.{Item}
 use Rattle.ledger.specs.declared.ledger.Ledger.{Ledger}
 

@@ -1,5 +1,5 @@
 -- An open intake: begun, entered into, and posted or withdrawn.
-use Rattle.std.specs.Prelude.{ℕ, ◌+◌, ◌-◌, Bool, not, ◌||◌, List, ◌++◌, take, drop, replicate, ℤ, ◌+ℤ◌, None, Option, nat_le, nat_lt, slice_set}
+use Rattle.std.specs.Prelude.{ℕ, ◌+◌, ◌-◌, Bool, not, ◌||◌, List, ◌++◌, take, drop, replicate, ◌+ℤ◌, None, Option, nat_le, nat_lt, slice_set}
 use Rattle.std.specs.Int.{saturate_to_bits}
 use Rattle.domain.specs.declared.amount.Amount.{Amount}
 use Rattle.domain.specs.declared.day.Day.{Day}

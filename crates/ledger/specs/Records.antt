@@ -1,5 +1,5 @@
 -- The ledger and the records of its two sides.
-use Rattle.std.specs.Prelude.{ℕ, cond, not, List, ℤ, None, Ok, Err, Option, Result, ◌==◌, nat_lt}
+use Rattle.std.specs.Prelude.{ℕ, not, List, ℤ, None, Ok, Err, Option, Result, ◌==◌, nat_lt}
 use Rattle.std.specs.Option.{ok_or}
 use Rattle.domain.specs.declared.amount.Amount.{Amount}
 use Rattle.domain.specs.declared.currency.Currency.{Currency}

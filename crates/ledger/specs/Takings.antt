@@ -1,5 +1,5 @@
 -- Taking what remains of a source's statement.
-use Rattle.std.specs.Prelude.{ℕ, ◌+◌, List, [], ◌∷◌, ◌++◌, map, length, take, drop, ℤ, None, Option, nat_lt}
+use Rattle.std.specs.Prelude.{ℕ, ◌+◌, List, [], ◌++◌, map, length, take, drop, ℤ, None, Option, nat_lt}
 use Rattle.std.specs.Option.{option_or}
 use Rattle.domain.specs.declared.entry.Side.{Side}
 use Rattle.domain.specs.declared.entry.Entry.{Entry}

@@ -1,5 +1,7 @@
 // The ledger of open items: statements are taken in, and what is outstanding is folded and matched.
 // The item table is the caller's, and lent at each call. A refused call changes nothing.
+#![tactic(auto)]
+
 pub mod grouping;
 pub mod intake;
 pub mod ledger;

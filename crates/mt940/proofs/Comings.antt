@@ -1,5 +1,5 @@
 -- What a text that is read without a refusal comes to: its entries lead from the opening to the closing.
-use Rattle.std.proofs.Common.{◌≡◌, ℕ, ◌+◌, ◌≤◌, Bool, true, false, cond, ◌&&◌, eqb, ◌⊎◌, List, [], ◌∷◌, length, drop, ℤ, pos, ◌+ℤ◌, Some, None, Ok, Err, Option, Result, sym, refl, ap, ◌∙◌, subst, inl, inr, arith}
+use Rattle.std.proofs.Common.{◌≡◌, ℕ, ◌+◌, true, ◌&&◌, eqb, List, [], ◌∷◌, length, drop, ℤ, pos, ◌+ℤ◌, Some, None, Ok, Err, Option, Result, sym, refl, ap, ◌∙◌, subst, inl, inr, arith}
 use Rattle.std.proofs.lemmas.Result.{IfOk-at_ok}
 use Rattle.std.proofs.lemmas.Int.{ints}
 use Rattle.std.proofs.lemmas.Bool.{cases_Bool, cond-true, cond-false, and_parts}
@@ -7,16 +7,16 @@ use Rattle.domain.specs.declared.digits.Digits.{Digits}
 use Rattle.domain.specs.declared.entry.Entry.{Entry}
 use Rattle.domain.specs.declared.refusal.Refusal.{Refusal}
 use Rattle.domain.specs.declared.refusal.Refusal.TheVariants.{EndsEarly}
-use Rattle.source.specs.Statement.{Statement, Lawful, total}
+use Rattle.source.specs.Statement.{Lawful, total}
 use Rattle.text.specs.Lines.{split, content_of}
 use Rattle.text.specs.Scanning.{finish_of, scan_of, scan_from}
 use Rattle.mt940_fields.specs.declared.movement.Movement.{Movement}
 use Rattle.mt940_fields.specs.Movements.{stated_in}
 use Rattle.mt940_pages.specs.declared.state.State.{State}
-use Rattle.mt940_pages.specs.Judging.{is_done, is_last, step_of}
+use Rattle.mt940_pages.specs.Judging.{is_done, step_of}
 use Rattle.mt940_pages.specs.Sizes.{Sound}
 use Rattle.mt940_pages.proofs.Goings.{Went, went_step, sum_with, count_with, last_closed}
-use Rattle.mt940.specs.Entries.{end_from, entry_at, before, entries_of, entries_from}
+use Rattle.mt940.specs.Entries.{end_from, before, entries_of, entries_from}
 use Rattle.mt940.specs.Whole.{statement_at}
 
 pub record Comes (s u : State) (es : List Entry) : Type 0 where

@@ -1,5 +1,5 @@
 -- A reader that is made, and one entry on.
-use Rattle.std.proofs.Common.{◌≡◌, ℕ, ◌+◌, ◌-◌, ◌<◌, ◌≤◌, true, ltb, List, [], ◌∷◌, length, ℤ, pos, ◌+ℤ◌, IfOk, Some, None, Ok, Err, Option, Result, sym, refl, ap, ◌∙◌, subst, arith, w64, SFits}
+use Rattle.std.proofs.Common.{◌≡◌, ℕ, ◌-◌, ◌≤◌, ltb, List, [], ◌∷◌, length, ℤ, pos, ◌+ℤ◌, IfOk, Some, None, Ok, Err, sym, refl, ap, ◌∙◌, subst, arith, w64, SFits}
 use Rattle.std.proofs.lemmas.Bool.{cond_both, ltb-false}
 use Rattle.std.proofs.lemmas.Result.{IfOk-at_ok}
 use Rattle.domain.specs.declared.amount.Amount.{Amount}
@@ -10,7 +10,7 @@ use Rattle.domain.specs.declared.refusal.Refusal.{Refusal}
 use Rattle.domain.specs.declared.refusal.Refusal.TheVariants.{BadAmount, BadCurrency, TooMuch}
 use Rattle.domain.specs.Accounts.{as_digits}
 use Rattle.domain.specs.Makers.{as_currency}
-use Rattle.source.specs.Statement.{Statement, Lawful, first, first_of, rest, onward, moved}
+use Rattle.source.specs.Statement.{Statement, Lawful, first, first_of, moved}
 use Rattle.source.proofs.Sums.{lawful_fits, lawful_moved}
 use Rattle.text.specs.Scanning.{scan_from}
 use Rattle.mt940_pages.specs.declared.state.State.{State}
@@ -19,7 +19,7 @@ use Rattle.mt940_pages.specs.Sizes.{Sound}
 use Rattle.mt940_pages.proofs.Chains.{made_need}
 use Rattle.mt940.specs.declared.reader.Mt940.{Mt940}
 use Rattle.mt940.specs.Entries.{entries_from}
-use Rattle.mt940.specs.Whole.{admitted_of, amount_at, day_at, meaning_of, Made, read_by, read_of, Ready, statement_at, statement_by}
+use Rattle.mt940.specs.Whole.{admitted_of, meaning_of, Made, read_by, read_of, Ready, statement_at, statement_by}
 use Rattle.mt940.proofs.Comings.{lawful_read}
 use Rattle.mt940.proofs.Keeps.{day_back, amount_back}
 

@@ -1,15 +1,14 @@
 -- How the reader goes through the lines of a text.
-use Rattle.std.proofs.Common.{◌≡◌, ℕ, ◌+◌, ◌-◌, ◌<◌, ◌≤◌, Bool, true, false, cond, List, [], ◌∷◌, length, take, drop, Some, None, Option, sym, refl, ap, ◌∙◌, arith}
+use Rattle.std.proofs.Common.{◌≡◌, ℕ, ◌+◌, ◌-◌, ◌<◌, ◌≤◌, true, false, cond, List, [], length, take, drop, Some, None, Option, sym, ap, ◌∙◌, arith}
 use Rattle.std.proofs.lemmas.List.{length-take-le}
 use Rattle.std.proofs.lemmas.Bool.{cond-true, cond-false}
 use Rattle.domain.specs.declared.digits.Digits.{Digits}
-use Rattle.domain.specs.declared.entry.Entry.{Entry}
 use Rattle.text.specs.Lines.{from, split, content_of}
 use Rattle.text.proofs.Lining.{line_at, line_end, line_next}
 use Rattle.mt940_fields.specs.declared.movement.Movement.{Movement}
 use Rattle.mt940_fields.specs.Movements.{stated_in}
 use Rattle.mt940_cuts.specs.Tags.{is_continuing}
-use Rattle.mt940.specs.Entries.{end_from, entry_at, before, entries_of, entries_from}
+use Rattle.mt940.specs.Entries.{end_from, before, entries_of, entries_from}
 
 -- a line of a text, from `at` to its LF, of which the first n bytes are the content
 pub record Line (text : List ℕ) (at lf n : ℕ) : Type 0 where

@@ -1,5 +1,5 @@
 -- The entries that the lines of a text state.
-use Rattle.std.specs.Prelude.{◌≡◌, ℕ, ◌+◌, ◌-◌, ◌≤◌, cond, List, [], ◌∷◌, length, drop, Some, None, Option}
+use Rattle.std.specs.Prelude.{◌≡◌, ℕ, ◌+◌, ◌-◌, cond, List, [], ◌∷◌, length, drop, Some, None, Option}
 use Rattle.domain.specs.declared.digits.Digits.{Digits}
 use Rattle.domain.specs.declared.entry.Entry.{Entry}
 use Rattle.text.specs.Lines.{split, content_of}

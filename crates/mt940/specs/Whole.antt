@@ -1,5 +1,5 @@
 -- What a text means as a statement, and what a reader of it means.
-use Rattle.std.specs.Prelude.{◌≡◌, ℕ, ◌≤◌, cond, List, length, ℤ, Some, None, Ok, Err, Option, Result, nat_lt}
+use Rattle.std.specs.Prelude.{◌≡◌, ℕ, ◌≤◌, cond, List, length, ℤ, Ok, Err, Result, nat_lt}
 use Rattle.std.specs.Option.{unwrap_or}
 use Rattle.domain.specs.declared.refusal.Refusal.{Refusal}
 use Rattle.domain.specs.declared.refusal.Refusal.TheVariants.{BadAmount, BadCurrency, TooMuch}

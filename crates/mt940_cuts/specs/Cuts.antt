@@ -1,5 +1,5 @@
 -- How a :61: is cut: it is a value date, perhaps an entry date, a mark, perhaps a capital, an amount, a type and a reference.
-use Rattle.std.specs.Prelude.{ℕ, ◌+◌, Bool, true, false, cond, ◌&&◌, ◌||◌, List, [], ◌∷◌, length, take, drop, Some, None, codes, Option, nat_le, slice_index}
+use Rattle.std.specs.Prelude.{ℕ, ◌+◌, Bool, true, false, cond, ◌&&◌, ◌||◌, List, [], ◌∷◌, take, drop, Some, None, codes, Option, nat_le, slice_index}
 use Rattle.domain.specs.declared.key.Key.{Key}
 use Rattle.domain.specs.Currencies.{is_capital}
 use Rattle.domain.specs.Makers.{as_key}

@@ -1,5 +1,5 @@
 -- The tags that lines begin with.
-use Rattle.std.specs.Prelude.{ℕ, Bool, true, false, cond, ◌||◌, List, Some, None, codes, Option, ◌==◌, nat_eq}
+use Rattle.std.specs.Prelude.{ℕ, Bool, false, cond, ◌||◌, List, Some, None, codes, Option, ◌==◌, nat_eq}
 use Rattle.domain.specs.References.{same_bytes}
 use Rattle.mt940_cuts.specs.Slices.{starts_with}
 use Rattle.mt940_cuts.specs.declared.tag.Tag.{Tag}

@@ -1,5 +1,5 @@
 -- The signs that marks give, and an amount with its sign.
-use Rattle.std.proofs.Common.{◌≡◌, ℕ, ◌⊎◌, List, ℤ, neg_ℤ, Some, None, Ok, Err, Option, Result, sym, refl, ap, ◌∙◌, inl, inr}
+use Rattle.std.proofs.Common.{◌≡◌, ℕ, ◌⊎◌, List, ℤ, neg_ℤ, Some, None, Ok, Err, Option, Result, sym, ap, ◌∙◌, inl, inr}
 use Rattle.std.specs.Option.{ok_or}
 use Rattle.domain.specs.declared.amount.Amount.{Amount}
 use Rattle.domain.specs.declared.digits.Digits.{Digits}

@@ -1,7 +1,5 @@
 -- Balances: C or D, YYMMDD, currency, amount.
-use Rattle.std.specs.Prelude.{ℕ, Bool, cond, ◌&&◌, List, length, take, drop, Some, None, Ok, Err, codes, Option, Result, ◌==◌}
-use Rattle.domain.specs.declared.amount.Amount.{Amount}
-use Rattle.domain.specs.declared.day.Day.{Day}
+use Rattle.std.specs.Prelude.{ℕ, cond, ◌&&◌, List, length, take, drop, Some, None, Ok, Err, codes, Option, Result, ◌==◌}
 use Rattle.domain.specs.declared.digits.Digits.{Digits}
 use Rattle.domain.specs.declared.refusal.Refusal.{Refusal}
 use Rattle.domain.specs.declared.refusal.Refusal.TheVariants.{NoSuchDay, BadAmount, BadCurrency}

@@ -1,7 +1,6 @@
 -- What a :61: says of its entry.
 use Rattle.std.specs.Prelude.{ℕ, Bool, cond, List, take, drop, Some, None, Ok, Err, Option, Result}
 use Rattle.std.specs.Result.{result_ok}
-use Rattle.domain.specs.declared.amount.Amount.{Amount}
 use Rattle.domain.specs.declared.day.Day.{Day}
 use Rattle.domain.specs.declared.digits.Digits.{Digits}
 use Rattle.domain.specs.declared.refusal.Refusal.{Refusal}

@@ -1,5 +1,5 @@
 -- What a line that goes on does to the state: it adds just the entry that it states, and the state stays sound.
-use Rattle.std.proofs.Common.{◌≡◌, ℕ, ◌+◌, ◌*◌, ◌≤◌, Bool, true, false, cond, ◌&&◌, eqb, leb, List, drop, ℤ, pos, ◌+ℤ◌, neg_ℤ, ◌≤ℤ◌, IfOk, Some, None, Ok, Err, Option, Result, sym, refl, ap, ◌∙◌, subst, arith}
+use Rattle.std.proofs.Common.{◌≡◌, ℕ, ◌+◌, ◌≤◌, true, false, cond, eqb, leb, List, drop, ℤ, ◌+ℤ◌, IfOk, Some, None, Ok, Err, Option, Result, sym, refl, ap, ◌∙◌, subst, arith}
 use Rattle.std.proofs.lemmas.Result.{IfOk-at_ok}
 use Rattle.std.proofs.lemmas.Int.{ints}
 use Rattle.std.proofs.lemmas.Bool.{cond_both, cond-true, both_ways, and_parts, leb-true, leb-false}
@@ -19,13 +19,13 @@ use Rattle.mt940_cuts.specs.Cuts.{parts_of}
 use Rattle.mt940_fields.specs.Movements.{movement_of, stated_by, stated_in}
 use Rattle.mt940_fields.specs.Numbers.{numbers_of}
 use Rattle.mt940_cuts.specs.Slices.{is_sized}
-use Rattle.mt940_cuts.specs.Tags.{code, tag_of, width_of, is_entry_line}
+use Rattle.mt940_cuts.specs.Tags.{code, tag_of, width_of}
 use Rattle.mt940_pages.specs.declared.stage.Stage.{Stage}
 use Rattle.mt940_pages.specs.declared.stage.Stage.TheVariants.{Start, Named, Tied, Held, Numbered, Body, Item, Noted, Closed, Remark, Done}
 use Rattle.mt940_pages.specs.declared.state.Arrival.{Arrival}
 use Rattle.mt940_pages.specs.declared.state.State.{State}
 use Rattle.mt940_pages.specs.Stages.{placed}
-use Rattle.mt940_pages.specs.Judging.{need, and_then, staged, passed_of, named_of, next_page, paged, numbered_of, arrived_of, sum_of, opened, opened_first, repeats, opened_later, closed, closed_of, added, entered_of, field_of, is_last, step_of}
+use Rattle.mt940_pages.specs.Judging.{need, staged, passed_of, named_of, next_page, paged, numbered_of, arrived_of, sum_of, opened, opened_first, repeats, opened_later, closed, closed_of, added, entered_of, field_of, is_last, step_of}
 use Rattle.mt940_pages.specs.Sizes.{is_closed, Sound}
 use Rattle.mt940_pages.proofs.Chains.{made_need, made_then}
 use Rattle.mt940_pages.proofs.Orders.{is_closing, is_quiet, Stays, stays}

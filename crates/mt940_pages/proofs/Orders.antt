@@ -1,14 +1,14 @@
 -- How a page comes to be closed: by a closing alone, and only a note, a further line or the hyphen leaves it so.
-use Rattle.std.proofs.Common.{◌≡◌, ℕ, ◌+◌, Bool, true, false, cond, ◌||◌, eqb, ltb, IfOk, Some, None, Option, sym, refl, ap, ◌∙◌}
-use Rattle.std.proofs.lemmas.Bool.{cond_both, false≢true, both_ways, or_left, or_right}
+use Rattle.std.proofs.Common.{◌≡◌, ℕ, ◌+◌, Bool, true, false, cond, ◌||◌, eqb, ltb, IfOk, Some, None, Option, refl}
+use Rattle.std.proofs.lemmas.Bool.{cond_both, both_ways, or_left, or_right}
 use Rattle.std.specs.Option.{ok_or}
 use Rattle.domain.specs.declared.refusal.Refusal.TheVariants.{Misplaced}
 use Rattle.mt940_cuts.specs.declared.tag.Tag.{Tag}
-use Rattle.mt940_cuts.specs.declared.tag.Tag.TheVariants.{Reference, Related, Account, Number, OpeningFirst, OpeningLater, Entry, ClosingLast, ClosingMiddle, Note, Hyphen, Further}
+use Rattle.mt940_cuts.specs.declared.tag.Tag.TheVariants.{Reference, Related, Account, Number, Entry, ClosingLast, ClosingMiddle, Note, Hyphen, Further}
 use Rattle.mt940_cuts.specs.Tags.{code}
 use Rattle.mt940_pages.specs.declared.stage.Stage.{Stage}
 use Rattle.mt940_pages.specs.declared.stage.Stage.TheVariants.{Start, Named, Tied, Held, Numbered, Body, Item, Noted, Closed, Remark, Done}
-use Rattle.mt940_pages.specs.Stages.{on, on_further, opening_tag, in_body, ended, next_stage, placed}
+use Rattle.mt940_pages.specs.Stages.{on, on_further, opening_tag, in_body, ended, placed}
 use Rattle.mt940_pages.specs.Sizes.{is_closed}
 
 abbrev pub is_closing : Tag → Bool

@@ -9,7 +9,6 @@ use Rattle.domain.specs.Entries.{same_int}
 use Rattle.domain.specs.Limits.{is_number}
 use Rattle.text.specs.Lines.{is_formed}
 use Rattle.mt940_fields.specs.declared.balance.Balance.{Balance}
-use Rattle.mt940_cuts.specs.declared.cutting.Parts.{Parts}
 use Rattle.mt940_fields.specs.declared.movement.Movement.{Movement}
 use Rattle.mt940_cuts.specs.declared.tag.Tag.{Tag}
 use Rattle.mt940_cuts.specs.declared.tag.Tag.TheVariants.{Reference, Related, Account, Number, OpeningFirst, OpeningLater, Entry, ClosingLast, ClosingMiddle, Note, Hyphen, Further}

@@ -1,5 +1,5 @@
 -- What holds of a reader's state at every line.
-use Rattle.std.specs.Prelude.{◌≡◌, ℕ, ◌*◌, ◌≤◌, Bool, true, false, ℤ, pos, neg_ℤ, ◌≤ℤ◌}
+use Rattle.std.specs.Prelude.{◌≡◌, ◌*◌, ◌≤◌, Bool, true, false, pos, neg_ℤ, ◌≤ℤ◌}
 use Rattle.mt940_pages.specs.declared.stage.Stage.{Stage}
 use Rattle.mt940_pages.specs.declared.stage.Stage.TheVariants.{Start, Named, Tied, Held, Numbered, Body, Item, Noted, Closed, Remark, Done}
 use Rattle.mt940_pages.specs.declared.state.State.{State}

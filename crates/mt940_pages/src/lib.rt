@@ -1,3 +1,5 @@
 // The pages of an MT940 statement: the order of their lines, and what each line leads to.
+#![tactic(auto)]
+
 pub mod stage;
 pub mod state;

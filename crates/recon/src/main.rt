@@ -1,4 +1,6 @@
 // Reconciles bank.txt with book.txt, and prints the report or the first refusal.
+#![tactic(auto)]
+
 use domain::blank::blank;
 use domain::entry::Item;
 use domain::refusal::Refusal;

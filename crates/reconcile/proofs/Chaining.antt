@@ -1,6 +1,5 @@
 -- How the steps follow one another: a refusal ends them, and a step that goes hands on.
-use Rattle.std.proofs.Common.{◌≡◌, ℕ, List, length, ℤ, Some, None, Ok, Err, Option, Result, sym, refl, ap, ◌∙◌}
-use Rattle.domain.specs.declared.day.Day.{Day}
+use Rattle.std.proofs.Common.{◌≡◌, ℕ, List, length, Some, None, Ok, Err, Option, Result, refl, ap, ◌∙◌}
 use Rattle.domain.specs.declared.entry.Side.{Side}
 use Rattle.domain.specs.declared.refusal.Refusal.{Refusal}
 use Rattle.source.specs.Statement.{Statement}

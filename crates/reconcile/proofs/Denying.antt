@@ -1,5 +1,5 @@
 -- How a call that is refused, or not, pairs its answer with the table that it leaves.
-use Rattle.std.proofs.Common.{◌≡◌, ℕ, List, replicate, ℤ, Some, None, Ok, Err, codes, Option, Result, sym, refl, ap, ◌∙◌, arith}
+use Rattle.std.proofs.Common.{◌≡◌, ℕ, List, replicate, ℤ, Some, None, Ok, Err, codes, Option, Result, refl, ap, ◌∙◌, arith}
 use Rattle.domain.specs.declared.entry.Item.{Item}
 use Rattle.domain.specs.declared.refusal.Refusal.{Refusal}
 use Rattle.ledger.specs.declared.ledger.Ledger.{Ledger}

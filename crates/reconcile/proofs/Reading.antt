@@ -1,5 +1,5 @@
 -- How the readers' answers lead on.
-use Rattle.std.proofs.Common.{◌≡◌, ℕ, ◌<◌, ◌≤◌, ltb, List, length, Ok, Err, codes, Result, sym, refl, ap, ◌∙◌}
+use Rattle.std.proofs.Common.{◌≡◌, ℕ, ◌<◌, ◌≤◌, List, length, Ok, Err, codes, Result, sym, refl, ap, ◌∙◌}
 use Rattle.std.proofs.lemmas.Bool.{cond-true, cond-false, lt-ltb, le-ltb}
 use Rattle.domain.specs.declared.entry.Side.TheVariants.{Bank, Book}
 use Rattle.domain.specs.declared.refusal.Refusal.{Refusal}

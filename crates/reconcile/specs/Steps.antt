@@ -1,7 +1,6 @@
 -- What two statements come to: a ledger opened for both, each taken, what can be folded folded, what may pair by reference paired, and the report.
-use Rattle.std.specs.Prelude.{ℕ, List, [], ◌++◌, length, replicate, ℤ, Ok, Err, codes, Result}
+use Rattle.std.specs.Prelude.{ℕ, List, length, replicate, ℤ, Ok, Err, codes, Result}
 use Rattle.std.specs.Option.{ok_or}
-use Rattle.domain.specs.declared.amount.Amount.{Amount}
 use Rattle.domain.specs.declared.day.Day.{Day}
 use Rattle.domain.specs.declared.entry.Item.{Item}
 use Rattle.domain.specs.declared.entry.Side.{Side}

@@ -1,4 +1,6 @@
 // From two texts to a report.
+#![tactic(auto)]
+
 ghost use Rattle.std.specs.Prelude.{◌≡◌, ◌≤◌, length, IfOk};
 ghost use Rattle.reconcile.specs.Texts.{recon_of, length_in, output_in};
 

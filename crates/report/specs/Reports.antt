@@ -1,5 +1,5 @@
 -- The report on a ledger and its items, byte by byte.
-use Rattle.std.specs.Prelude.{ℕ, ◌+◌, Bool, cond, List, [], ◌∷◌, ◌++◌, length, take, None, Option, ◌==◌, nat_lt}
+use Rattle.std.specs.Prelude.{ℕ, ◌+◌, cond, List, [], ◌∷◌, ◌++◌, length, take, None, Option, ◌==◌, nat_lt}
 use Rattle.std.specs.List.{flat_map}
 use Rattle.domain.specs.declared.entry.Item.{Item}
 use Rattle.domain.specs.declared.refusal.Refusal.{Refusal}

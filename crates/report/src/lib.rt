@@ -1,4 +1,6 @@
 // The report on a ledger: what stands on both sides, and every outstanding item.
+#![tactic(auto)]
+
 ghost use Rattle.std.specs.Prelude.{◌≡◌, ◌≤◌, length, IfOk};
 ghost use Rattle.ledger.specs.Denials.{answered, unless};
 ghost use Rattle.report.specs.Outputs.{put};

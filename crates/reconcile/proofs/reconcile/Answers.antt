@@ -1,4 +1,4 @@
-use Rattle.std.proofs.Common.{◌≡◌, length, sym, ap, ◌∙◌}
+use Rattle.std.proofs.Common.{length}
 use Rattle.reconcile.proofs.Reading.{long_bank, read_bank, long_book, read_book, bank_refused, book_refused, both_read, refused, ran}
 use Rattle.reconcile.proofs.reconcile.Goals as goal
 

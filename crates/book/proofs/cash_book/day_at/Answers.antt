@@ -17,4 +17,4 @@ chosen : (r d : Day) (o : Option Day) (q : Result Day Refusal) → r ≡ results
 chosen r d o q e f z = e ∙ ap (λ (x : Result Day Refusal). results.result_unwrap_or x d) f ∙ by_cases o d z
 
 pub returns : goal.returns
-returns c = chosen _ _ (as_day c.args.number) _ c.unwrap-or.ensures c.new.ensures refl
+returns c = chosen _ _ (as_day c.args.number) _ c.unwrap_or.ensures c.new.ensures refl

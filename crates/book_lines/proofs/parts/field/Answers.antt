@@ -1,10 +1,10 @@
-use Rattle.std.proofs.Common.{◌≡◌, sym, ◌∙◌, arith}
+use Rattle.std.proofs.Common.{sym, ◌∙◌, arith}
 use Rattle.std.proofs.lemmas.List.{take_rest}
 use Rattle.book_lines.proofs.Parting.{field_next, field_none, field_here, field_rest}
 use Rattle.book_lines.proofs.parts.field.Goals as goal
 
-pub returns-in-default : goal.returns-in-default
-returns-in-default c = sym (field_none c.args.line.now c.loop-i.at c.args.k c.loop-i.i c.loop-i-test.true (sym c.in-default.ensures.is)) ∙ c.loop-i.invariant.1
+pub returns-in_default : goal.returns-in_default
+returns-in_default c = sym (field_none c.args.line.now c.loop-i.at c.args.k c.loop-i.i c.loop-i-test.true (sym c.in_default.ensures.is)) ∙ c.loop-i.invariant.1
 
 pub loop-i-preserved : goal.loop-i-preserved
 loop-i-preserved c =

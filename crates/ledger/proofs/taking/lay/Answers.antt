@@ -5,7 +5,7 @@ use Rattle.ledger.proofs.taking.lay.Goals as goal
 pub returns : goal.returns
 returns g c =
     let s = g.S.Source in
-    let told = c.in-default.ensures in
+    let told = c.in_default.ensures in
     let gone : (s.meaning c.loop-entry.source).remaining ≡ [] = none_left _ told.first in
     let long : length (s.meaning c.loop-entry.source).remaining ≡ 0 = ap length gone in
     record {

@@ -7,4 +7,4 @@ use Rattle.mt940.proofs.Keeps.{kept}
 use Rattle.mt940.proofs.reader.day_at.Goals as goal
 
 pub returns : goal.returns
-returns c = kept (as_day c.args.number) NoSuchDay _ day_zero _ _ c.unwrap-or.ensures c.new.ensures (day_same _ _ refl)
+returns c = kept (as_day c.args.number) NoSuchDay _ day_zero _ _ c.unwrap_or.ensures c.new.ensures (day_same _ _ refl)

@@ -23,7 +23,7 @@ loop-lf-preserved c =
 pub returns : goal.returns
 returns c =
     record {
-      is = sym (end_none c.args.text.now c.loop-lf.at c.loop-lf.last (sym c.in-default.ensures.is)) ∙ c.loop-lf.invariant.0;
+      is = sym (end_none c.args.text.now c.loop-lf.at c.loop-lf.last (sym c.in_default.ensures.is)) ∙ c.loop-lf.invariant.0;
       after = c.loop-lf.invariant.1.0;
       within = omega (arith, c.loop-lf.invariant.1.1.0, c.loop-lf.invariant.1.1.1);
     }

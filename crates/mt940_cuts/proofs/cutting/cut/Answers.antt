@@ -2,17 +2,17 @@ use Rattle.std.proofs.Common.{rules}
 use Rattle.mt940_cuts.specs.Cuts.{parts_of}
 use Rattle.mt940_cuts.proofs.cutting.cut.Goals as goal
 
-pub returns-in-default : goal.returns-in-default
+pub returns-in_default : goal.returns-in_default
 unfolding parts_of
-returns-in-default c = search rules
+returns-in_default c = search rules
 
-pub returns-in-default-mark-of : goal.returns-in-default-mark-of
+pub returns-in_default-mark_of : goal.returns-in_default-mark_of
 unfolding parts_of
-returns-in-default-mark-of c = search rules
+returns-in_default-mark_of c = search rules
 
-pub returns-in-default-details : goal.returns-in-default-details
+pub returns-in_default-details : goal.returns-in_default-details
 unfolding parts_of
-returns-in-default-details c = search rules
+returns-in_default-details c = search rules
 
 pub returns : goal.returns
 unfolding parts_of

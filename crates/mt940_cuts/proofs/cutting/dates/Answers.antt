@@ -2,18 +2,18 @@ use Rattle.std.proofs.Common.{rules}
 use Rattle.mt940_cuts.specs.Cuts.{dates_of}
 use Rattle.mt940_cuts.proofs.cutting.dates.Goals as goal
 
-pub returns-then-not-is-date : goal.returns-then-not-is-date
+pub returns-then-not-is_date : goal.returns-then-not-is_date
 unfolding dates_of
-returns-then-not-is-date c = search rules
+returns-then-not-is_date c = search rules
 
-pub returns-then-not-is-digit : goal.returns-then-not-is-digit
+pub returns-then-not-is_digit : goal.returns-then-not-is_digit
 unfolding dates_of
-returns-then-not-is-digit c = search rules
+returns-then-not-is_digit c = search rules
 
-pub returns-then-is-date : goal.returns-then-is-date
+pub returns-then-is_date : goal.returns-then-is_date
 unfolding dates_of
-returns-then-is-date c = search rules
+returns-then-is_date c = search rules
 
-pub returns-else-is-date : goal.returns-else-is-date
+pub returns-else-is_date : goal.returns-else-is_date
 unfolding dates_of
-returns-else-is-date c = search rules
+returns-else-is_date c = search rules

@@ -2,9 +2,9 @@ use Rattle.std.proofs.Common.{rules}
 use Rattle.mt940_cuts.specs.Cuts.{key_of}
 use Rattle.mt940_cuts.proofs.cutting.key_of.Goals as goal
 
-pub returns-then-not-is-sized : goal.returns-then-not-is-sized
+pub returns-then-not-is_sized : goal.returns-then-not-is_sized
 unfolding key_of
-returns-then-not-is-sized c = search rules
+returns-then-not-is_sized c = search rules
 
 pub returns-in-Ok : goal.returns-in-Ok
 unfolding key_of

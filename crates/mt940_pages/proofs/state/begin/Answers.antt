@@ -1,4 +1,4 @@
-use Rattle.std.proofs.Common.{◌≡◌, true, pos, refl, arith, rules}
+use Rattle.std.proofs.Common.{◌≡◌, true, pos, refl, arith}
 use Rattle.std.proofs.lemmas.Int.{ints}
 use Rattle.std.proofs.lemmas.Bool.{false≢true}
 use Rattle.domain.specs.declared.amount.Amount.{Amount}

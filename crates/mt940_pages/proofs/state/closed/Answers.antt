@@ -6,9 +6,9 @@ pub returns-in-Err : goal.returns-in-Err
 unfolding closed_of
 returns-in-Err c = search rules
 
-pub returns-then-not-is-sum : goal.returns-then-not-is-sum
+pub returns-then-not-is_sum : goal.returns-then-not-is_sum
 unfolding closed_of
-returns-then-not-is-sum c = search rules
+returns-then-not-is_sum c = search rules
 
 pub returns : goal.returns
 unfolding closed_of

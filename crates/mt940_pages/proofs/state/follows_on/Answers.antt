@@ -10,6 +10,6 @@ pub returns-else-page-eq1 : goal.returns-else-page-eq1
 unfolding next_page
 returns-else-page-eq1 c = search rules
 
-pub returns-else-is-next : goal.returns-else-is-next
+pub returns-else-is_next : goal.returns-else-is_next
 unfolding next_page
-returns-else-is-next c = search rules
+returns-else-is_next c = search rules

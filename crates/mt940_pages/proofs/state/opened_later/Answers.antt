@@ -6,9 +6,9 @@ pub returns-in-Err : goal.returns-in-Err
 unfolding opened_later
 returns-in-Err c = search rules
 
-pub returns-then-not-is-repeat : goal.returns-then-not-is-repeat
+pub returns-then-not-is_repeat : goal.returns-then-not-is_repeat
 unfolding opened_later
-returns-then-not-is-repeat c = search rules
+returns-then-not-is_repeat c = search rules
 
 pub returns : goal.returns
 unfolding opened_later

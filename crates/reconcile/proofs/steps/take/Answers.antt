@@ -1,4 +1,4 @@
-use Rattle.std.proofs.Common.{◌≡◌, Ok, Err, sym, refl, ap, ◌∙◌}
+use Rattle.std.proofs.Common.{Err, ap, ◌∙◌}
 use Rattle.reconcile.specs.Steps.{taken_by}
 use Rattle.reconcile.proofs.Denying.{handed_ok, handed_err}
 use Rattle.reconcile.proofs.steps.take.Goals as goal
@@ -9,4 +9,4 @@ returns-in-Ok g c = handed_ok _ _ _ _ _ _ _ c.in-Ok.ensures.answer c.in-Ok.ensur
 
 pub returns-in-Err : goal.returns-in-Err
 unfolding taken_by
-returns-in-Err g c = ap Err c.why-refused.ensures ∙ handed_err _ _ _ _ _ c.in-Err.ensures.answer
+returns-in-Err g c = ap Err c.why_refused.ensures ∙ handed_err _ _ _ _ _ c.in-Err.ensures.answer

@@ -1,4 +1,4 @@
-use Rattle.std.proofs.Common.{◌+◌, [], length, get_or, drop, ap, ◌∙◌, arith}
+use Rattle.std.proofs.Common.{◌+◌, [], length, get_or, drop, ap, arith}
 use Rattle.std.proofs.lemmas.List.{length-append}
 use Rattle.report.specs.Reports.{report_rows, together}
 use Rattle.report.proofs.Places.{rows_count, together_more, together_end}
@@ -10,7 +10,7 @@ loop-k-preserved c =
     let k = c.loop-k.k in
     let n = rows_count c.args.ledger.now c.args.items.now in
     let more = together_more rows k (omega (arith, n)) in (
-      omega (arith, ap length more, length-append (get_or rows k []) (together (drop (k + 1) rows)), c.length-total.ensures.is, ap length c.row-at.ensures.text, c.loop-k.invariant.0),
+      omega (arith, ap length more, length-append (get_or rows k []) (together (drop (k + 1) rows)), c.length-total.ensures.is, ap length c.row_at.ensures.text, c.loop-k.invariant.0),
       omega (arith, c.length-total.ensures.short, c.loop-k.invariant.1),
     )
 

@@ -1,8 +1,7 @@
-use Rattle.std.proofs.Common.{◌≡◌, ℕ, ◌-◌, List, [], length, get_or, sym, ap, ◌∙◌, arith}
+use Rattle.std.proofs.Common.{◌≡◌, ℕ, ◌-◌, [], get_or, sym, ap, ◌∙◌, arith}
 use Rattle.domain.specs.declared.amount.Amount.{Amount}
 use Rattle.domain.specs.declared.currency.Currency.{Currency}
 use Rattle.domain.specs.declared.digits.Digits.{Digits}
-use Rattle.ledger.specs.declared.ledger.Ledger.{Ledger}
 use Rattle.ledger.specs.declared.record.SideRecord.{SideRecord}
 use Rattle.report.specs.Rows.{currency_row, side_row, difference_row}
 use Rattle.report.specs.Reports.{report_rows}
@@ -20,8 +19,8 @@ returns-in-0 c =
     let l = c.args.ledger.now in
     let xs = c.args.items.now in
     record {
-      text = c.currency-row.ensures.text ∙ same_currency _ _ _ _ c.currency.ensures c.digits.ensures ∙ sym (row_currency l xs) ∙ ap (λ (k : ℕ). get_or (report_rows l xs) k []) (sym c.in-0.is);
-      short = c.currency-row.ensures.short;
+      text = c.currency_row.ensures.text ∙ same_currency _ _ _ _ c.currency.ensures c.digits.ensures ∙ sym (row_currency l xs) ∙ ap (λ (k : ℕ). get_or (report_rows l xs) k []) (sym c.in-0.is);
+      short = c.currency_row.ensures.short;
     }
 
 pub returns-in-1 : goal.returns-in-1
@@ -29,8 +28,8 @@ returns-in-1 c =
     let l = c.args.ledger.now in
     let xs = c.args.items.now in
     record {
-      text = c.side-row.ensures.text ∙ ap (side_row 66) c.bank.ensures ∙ sym (row_bank l xs) ∙ ap (λ (k : ℕ). get_or (report_rows l xs) k []) (sym c.in-1.is);
-      short = c.side-row.ensures.short;
+      text = c.side_row.ensures.text ∙ ap (side_row 66) c.bank.ensures ∙ sym (row_bank l xs) ∙ ap (λ (k : ℕ). get_or (report_rows l xs) k []) (sym c.in-1.is);
+      short = c.side_row.ensures.short;
     }
 
 pub returns-in-2 : goal.returns-in-2
@@ -38,8 +37,8 @@ returns-in-2 c =
     let l = c.args.ledger.now in
     let xs = c.args.items.now in
     record {
-      text = c.side-row-in-2.ensures.text ∙ ap (side_row 72) c.book.ensures ∙ sym (row_book l xs) ∙ ap (λ (k : ℕ). get_or (report_rows l xs) k []) (sym c.in-2.is);
-      short = c.side-row-in-2.ensures.short;
+      text = c.side_row-in-2.ensures.text ∙ ap (side_row 72) c.book.ensures ∙ sym (row_book l xs) ∙ ap (λ (k : ℕ). get_or (report_rows l xs) k []) (sym c.in-2.is);
+      short = c.side_row-in-2.ensures.short;
     }
 
 pub returns-in-3 : goal.returns-in-3
@@ -48,10 +47,10 @@ returns-in-3 c =
     let xs = c.args.items.now in
     record {
       text =
-          c.difference-row.ensures.text
+          c.difference_row.ensures.text
           ∙ same_difference _ _ _ _ (c.opening.ensures ∙ ap (λ (r : SideRecord). r.opening) c.bank-in-3.ensures) (c.opening-in-3.ensures ∙ ap (λ (r : SideRecord). r.opening) c.book-in-3.ensures)
           ∙ sym (row_difference l xs) ∙ ap (λ (k : ℕ). get_or (report_rows l xs) k []) (sym c.in-3.is);
-      short = c.difference-row.ensures.short;
+      short = c.difference_row.ensures.short;
     }
 
 pub returns-then-i-items : goal.returns-then-i-items
@@ -59,8 +58,8 @@ returns-then-i-items c =
     let l = c.args.ledger.now in
     let xs = c.args.items.now in
     record {
-      text = c.open-row.ensures.text ∙ sym (row_item l xs (c.args.k - 4) c.args.k c.index-items-i.result (omega arith) c.if-i-items.true c.index-items-i.is);
-      short = c.open-row.ensures.short;
+      text = c.open_row.ensures.text ∙ sym (row_item l xs (c.args.k - 4) c.args.k c.index-items-i.result (omega arith) c.if-i-items.true c.index-items-i.is);
+      short = c.open_row.ensures.short;
     }
 
 pub returns-else-i-items : goal.returns-else-i-items
@@ -68,6 +67,6 @@ returns-else-i-items c =
     let l = c.args.ledger.now in
     let xs = c.args.items.now in
     record {
-      text = c.total-row.ensures.text ∙ sym (row_total l xs (c.args.k - 4) c.args.k (omega arith) (omega arith));
-      short = c.total-row.ensures.short;
+      text = c.total_row.ensures.text ∙ sym (row_total l xs (c.args.k - 4) c.args.k (omega arith) (omega arith));
+      short = c.total_row.ensures.short;
     }

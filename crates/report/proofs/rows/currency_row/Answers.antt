@@ -1,4 +1,4 @@
-use Rattle.std.proofs.Common.{◌≡◌, decimal, ap, ◌∙◌, arith}
+use Rattle.std.proofs.Common.{decimal, ap, ◌∙◌, arith}
 use Rattle.std.proofs.lemmas.List.{append_assoc}
 use Rattle.report.proofs.Fields.{more, more_as}
 use Rattle.report.proofs.rows.currency_row.Goals as goal

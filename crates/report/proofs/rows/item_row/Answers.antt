@@ -1,4 +1,4 @@
-use Rattle.std.proofs.Common.{◌≡◌, ℕ, [], ◌∷◌, ap, ◌∙◌, arith, w64, SFits, rules}
+use Rattle.std.proofs.Common.{ℕ, [], ◌∷◌, ap, ◌∙◌, arith, w64, SFits, rules}
 use Rattle.std.specs.Fmt.{signed_decimal}
 use Rattle.std.proofs.lemmas.List.{append_assoc}
 use Rattle.std.proofs.lemmas.Int.{to_z-of_z}
@@ -9,7 +9,7 @@ pub returns : goal.returns
 returns c =
     let fits : SFits w64 c.minor.result = search rules in
     let t = more _ _ _ _ c.all.ensures.text c.new-line.ensures.0 in
-    let t = more_as _ _ _ _ _ c.byte.ensures.text (ap (λ (b : ℕ). b ∷ []) c.side-tag.ensures) t in
+    let t = more_as _ _ _ _ _ c.byte.ensures.text (ap (λ (b : ℕ). b ∷ []) c.side_tag.ensures) t in
     let t = more _ _ _ _ c.byte-2.ensures.text t in
     let t = more _ _ _ _ c.number.ensures.text t in
     let t = more _ _ _ _ c.byte-3.ensures.text t in

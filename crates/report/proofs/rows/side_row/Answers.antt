@@ -1,4 +1,4 @@
-use Rattle.std.proofs.Common.{◌≡◌, decimal, ap, ◌∙◌, arith, w64, SFits, rules}
+use Rattle.std.proofs.Common.{decimal, ap, ◌∙◌, arith, w64, SFits, rules}
 use Rattle.std.specs.Fmt.{signed_decimal}
 use Rattle.std.proofs.lemmas.List.{append_assoc}
 use Rattle.std.proofs.lemmas.Int.{to_z-of_z}
@@ -13,7 +13,7 @@ returns c =
     let t = more _ _ _ _ c.byte-2.ensures.text t in
     let t = more_as _ _ _ _ _ c.number-2.ensures.text (ap decimal c.number.ensures) t in
     let t = more _ _ _ _ c.byte-3.ensures.text t in
-    let t = more_as _ _ _ _ _ c.all.ensures.text (c.written.ensures.is ∙ ap (λ d. date_text d.number) c.last-day.ensures) t in
+    let t = more_as _ _ _ _ _ c.all.ensures.text (c.written.ensures.is ∙ ap (λ d. date_text d.number) c.last_day.ensures) t in
     let t = more _ _ _ _ c.byte-4.ensures.text t in
     let t = more_as _ _ _ _ _ c.signed.ensures.text (ap signed_decimal (to_z-of_z w64 _ fits ∙ c.minor.ensures ∙ ap (λ a. a.minor) c.closing.ensures)) t in
     let t = more _ _ _ _ c.byte-5.ensures.text t in

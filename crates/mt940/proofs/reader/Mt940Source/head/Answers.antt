@@ -11,9 +11,9 @@ returns c =
     let f : SFits w64 b.closing = search rules in
     record {
       number = refl;
-      opening_day = c.day-at.ensures;
-      closing_day = c.day-at-2.ensures;
+      opening_day = c.day_at.ensures;
+      closing_day = c.day_at-2.ensures;
       reached = to_z-of_z w64 b.reached (lawful_fits (meaning_of b) c.requires.lawful);
-      closing = c.amount-at.ensures ∙ ap amount_at (to_z-of_z w64 b.closing f);
+      closing = c.amount_at.ensures ∙ ap amount_at (to_z-of_z w64 b.closing f);
       count = c.requires.counted;
     }

@@ -1,4 +1,4 @@
-use Rattle.std.proofs.Common.{◌≡◌, ℕ, List, drop, IfOk, Result, sym, ap, ◌∙◌, subst, rules}
+use Rattle.std.proofs.Common.{ℕ, drop, IfOk, Result, sym, ap, ◌∙◌, subst, rules}
 use Rattle.domain.specs.declared.refusal.Refusal.{Refusal}
 use Rattle.mt940_pages.specs.declared.state.State.{State}
 use Rattle.mt940_pages.specs.Judging.{step_of}
@@ -6,16 +6,16 @@ use Rattle.mt940_pages.specs.Sizes.{Sound}
 use Rattle.mt940_pages.proofs.Goings.{step_is, step_sound}
 use Rattle.mt940_pages.proofs.state.StateReading.step.Goals as goal
 
-pub returns-then-not-is-formed : goal.returns-then-not-is-formed
+pub returns-then-not-is_formed : goal.returns-then-not-is_formed
 unfolding step_of
-returns-then-not-is-formed c = search rules
+returns-then-not-is_formed c = search rules
 
-pub returns-in-default : goal.returns-in-default
+pub returns-in_default : goal.returns-in_default
 unfolding step_of
-returns-in-default c = search rules
+returns-in_default c = search rules
 
 pub returns : goal.returns
 returns c =
     let line = c.args.line.now in
-    let e = c.field.ensures ∙ step_is c.args.self line c.in-Some.tag _ (sym c.if-not-is-formed.ensures) (sym c.in-Some.ensures) (c.behind.ensures ∙ ap (λ (n : ℕ). drop n line) c.width.ensures) in
+    let e = c.field.ensures ∙ step_is c.args.self line c.in-Some.tag _ (sym c.if-not-is_formed.ensures) (sym c.in-Some.ensures) (c.behind.ensures ∙ ap (λ (n : ℕ). drop n line) c.width.ensures) in
     record { is = e; again = subst (λ (r : Result State Refusal). IfOk r Sound) (sym e) (step_sound c.args.self line c.requires) }

@@ -1,4 +1,4 @@
-use Rattle.std.proofs.Common.{◌≡◌, ℕ, ◌≤◌, List, ◌++◌, length, ap, ◌∙◌, arith}
+use Rattle.std.proofs.Common.{ℕ, List, ◌++◌, ap, ◌∙◌, arith}
 use Rattle.domain.specs.Keys.{until_zero, printed_key}
 use Rattle.report.specs.Outputs.{text_of}
 use Rattle.report.proofs.line.Line.key.Goals as goal
@@ -7,6 +7,6 @@ pub returns : goal.returns
 unfolding printed_key
 returns c =
     record {
-      text = c.until-zero.ensures.text ∙ ap (λ (x : List ℕ). text_of c.args.self.now ++ until_zero x) c.bytes.ensures;
-      few = omega (arith, c.until-zero.ensures.few);
+      text = c.until_zero.ensures.text ∙ ap (λ (x : List ℕ). text_of c.args.self.now ++ until_zero x) c.bytes.ensures;
+      few = omega (arith, c.until_zero.ensures.few);
     }
