@@ -31,7 +31,7 @@ CHOSEN = {
 # names that port.py had turned already, by the folder in which they are lemmas
 CHOSEN_IN = {"crates/calendar/proofs/": {"is_digit": "is_digit_lem"}, "crates/fields/proofs/Numbers.antt": {"units_of": "units_of_lem"}}
 CHAR = re.compile(r"b?'(?:\\.|[^'\\])'")
-STRING = re.compile(r'"(?:\\.|[^"\\])*"')
+STRING = re.compile(r'"(?:\\.|[^"\\])*"', re.S)
 WORD = re.compile(r"[A-Za-z_\u2124\u2115][A-Za-z0-9_'\u2124\u2115+*]*(?:-[A-Za-z0-9_'\u2124\u2115+*]+)*")
 
 

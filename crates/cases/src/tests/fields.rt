@@ -28,24 +28,36 @@ struct Stated {
     length: u32,
 }
 
-fn check_head(rt: &impl Abort, head: Head, wanted: &Heading) -> Result<(), Fail> {
-    assert_eq!(rt; head.number, wanted.number);
-    assert_eq!(rt; head.opening_day.number(), wanted.opening_day);
-    assert_eq!(rt; head.closing_day.number(), wanted.closing_day);
-    assert_eq!(rt; head.reached, wanted.reached);
-    assert_eq!(rt; head.closing.minor(), wanted.closing);
-    assert_eq!(rt; head.count, wanted.count);
+fn check_head(rt: &impl Abort, head: Head, wanted: &Heading, when: &str) -> Result<(), Fail> {
+    assert_eq!(rt; head.number, wanted.number, "{when}");
+    assert_eq!(rt; head.opening_day.number(), wanted.opening_day, "{when}");
+    assert_eq!(rt; head.closing_day.number(), wanted.closing_day, "{when}");
+    assert_eq!(rt; head.reached, wanted.reached, "{when}");
+    assert_eq!(rt; head.closing.minor(), wanted.closing, "{when}");
+    assert_eq!(rt; head.count, wanted.count, "{when}");
     Ok(())
 }
 
 fn check_entry(rt: &impl Abort, entry: Entry, wanted: &Stated) -> Result<(), Fail> {
-    assert_eq!(rt; entry.value_day.number(), wanted.value_day);
-    assert_eq!(rt; entry.entry_day.number(), wanted.entry_day);
-    assert_eq!(rt; entry.amount.minor(), wanted.amount);
-    assert_eq!(rt; entry.kind, wanted.kind);
-    assert!(rt; entry.key.same(Key::new(wanted.reference)?));
-    assert_eq!(rt; entry.place.offset, wanted.offset);
-    assert_eq!(rt; entry.place.length, wanted.length);
+    let at = wanted.offset;
+    assert_eq!(rt;
+        entry.value_day.number(),
+        wanted.value_day,
+        "the entry at {at}"
+    );
+    assert_eq!(rt;
+        entry.entry_day.number(),
+        wanted.entry_day,
+        "the entry at {at}"
+    );
+    assert_eq!(rt; entry.amount.minor(), wanted.amount, "the entry at {at}");
+    assert_eq!(rt; entry.kind, wanted.kind, "the entry at {at}");
+    assert!(rt;
+        entry.key.same(Key::new(wanted.reference)?),
+        "the entry at {at}"
+    );
+    assert_eq!(rt; entry.place.offset, wanted.offset, "the entry at {at}");
+    assert_eq!(rt; entry.place.length, wanted.length, "the entry at {at}");
     Ok(())
 }
 
@@ -54,7 +66,7 @@ fn check_next<S: Source>(rt: &impl Abort, source: &mut S, wanted: &Stated) -> Re
     ensures { S.Source.ready source.new }
 {
     match source.next() {
-        Some(entry) => check_entry(rt, entry, wanted).note(wanted.offset),
+        Some(entry) => check_entry(rt, entry, wanted),
         None => Err(Fail::new("no entry is left")),
     }
 }
@@ -157,11 +169,11 @@ static MOVEMENTS: [Stated; 5] = [
 #[test]
 fn statement_fields(rt: HostRuntime) -> Result<(), Fail> {
     let mut source = Mt940::read(STATEMENT, b"EUR", 2)?;
-    check_head(&rt, source.head(), &STARTED)?;
+    check_head(&rt, source.head(), &STARTED, "as made")?;
     check_next(&rt, &mut source, &MOVEMENTS[0])?;
     check_next(&rt, &mut source, &MOVEMENTS[1])?;
     check_next(&rt, &mut source, &MOVEMENTS[2])?;
-    check_head(&rt, source.head(), &BEHIND_PAGE_ONE).note("behind page 1")?;
+    check_head(&rt, source.head(), &BEHIND_PAGE_ONE, "behind page 1")?;
     check_next(&rt, &mut source, &MOVEMENTS[3])?;
     check_next(&rt, &mut source, &MOVEMENTS[4])?;
     assert!(rt; source.next().is_none());
@@ -206,7 +218,7 @@ static LINES: [Stated; 2] = [
 #[test]
 fn book_fields(rt: HostRuntime) -> Result<(), Fail> {
     let mut source = CashBook::read(BOOK, b"EUR", 2)?;
-    check_head(&rt, source.head(), &BOOK_HEADING)?;
+    check_head(&rt, source.head(), &BOOK_HEADING, "as made")?;
     check_next(&rt, &mut source, &LINES[0])?;
     check_next(&rt, &mut source, &LINES[1])?;
     assert!(rt; source.next().is_none());

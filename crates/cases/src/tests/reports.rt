@@ -124,9 +124,9 @@ T,1,700,2,2700\n",
     Example {
         name: "nothing moved",
         bank: b":20:S1\n:25:1\n:28C:1\n:60F:C240229EUR0,\n:62F:D240229EUR0,\n-\n",
-        book: b"B,EUR,99999,240101,0\n_z,0,240229,0\n",
+        book: b"B,EUR,99999,240101,0\nZ,0,240229,0\n",
         positions: 1,
-        report: b"R,EUR,2\n_b,1,240229,0\n_h,99999,240229,0\n_d,0\n_t,0,0,0,0\n",
+        report: b"R,EUR,2\nB,1,240229,0\nH,99999,240229,0\nD,0\nT,0,0,0,0\n",
     },
 ];
 
@@ -168,7 +168,7 @@ static DENIALS: [Denial; 15] = [
     Denial {
         name: "an output one byte too short",
         bank: b":20:S7\n:25:1\n:28C:7\n:60F:C240301EUR10,\n:61:240302C5,NTRFA\n:61:240302C5,NTRFB\n:62F:C240303EUR20,\n-\n",
-        book: b"B,EUR,7,240301,1000\n_e,240302,240302,500,A,x\n_z,1,240303,1500\n",
+        book: b"B,EUR,7,240301,1000\nE,240302,240302,500,A,x\nZ,1,240303,1500\n",
         positions: 3,
         room: 74,
         number: 32,
@@ -177,7 +177,7 @@ static DENIALS: [Denial; 15] = [
     Denial {
         name: "no output",
         bank: b":20:S7\n:25:1\n:28C:7\n:60F:C240301EUR10,\n:61:240302C5,NTRFA\n:61:240302C5,NTRFB\n:62F:C240303EUR20,\n-\n",
-        book: b"B,EUR,7,240301,1000\n_e,240302,240302,500,A,x\n_z,1,240303,1500\n",
+        book: b"B,EUR,7,240301,1000\nE,240302,240302,500,A,x\nZ,1,240303,1500\n",
         positions: 3,
         room: 0,
         number: 32,
@@ -186,7 +186,7 @@ static DENIALS: [Denial; 15] = [
     Denial {
         name: "a table too small for the bank",
         bank: b":20:S7\n:25:1\n:28C:7\n:60F:C240301EUR10,\n:61:240302C5,NTRFA\n:61:240302C5,NTRFB\n:62F:C240303EUR20,\n-\n",
-        book: b"B,EUR,7,240301,1000\n_e,240302,240302,500,A,x\n_z,1,240303,1500\n",
+        book: b"B,EUR,7,240301,1000\nE,240302,240302,500,A,x\nZ,1,240303,1500\n",
         positions: 1,
         room: 75,
         number: 24,
@@ -195,7 +195,7 @@ static DENIALS: [Denial; 15] = [
     Denial {
         name: "a table too small for the book",
         bank: b":20:S7\n:25:1\n:28C:7\n:60F:C240301EUR10,\n:61:240302C5,NTRFA\n:61:240302C5,NTRFB\n:62F:C240303EUR20,\n-\n",
-        book: b"B,EUR,7,240301,1000\n_e,240302,240302,500,A,x\n_z,1,240303,1500\n",
+        book: b"B,EUR,7,240301,1000\nE,240302,240302,500,A,x\nZ,1,240303,1500\n",
         positions: 2,
         room: 75,
         number: 24,
@@ -204,7 +204,7 @@ static DENIALS: [Denial; 15] = [
     Denial {
         name: "a table too small and no output",
         bank: b":20:S7\n:25:1\n:28C:7\n:60F:C240301EUR10,\n:61:240302C5,NTRFA\n:61:240302C5,NTRFB\n:62F:C240303EUR20,\n-\n",
-        book: b"B,EUR,7,240301,1000\n_e,240302,240302,500,A,x\n_z,1,240303,1500\n",
+        book: b"B,EUR,7,240301,1000\nE,240302,240302,500,A,x\nZ,1,240303,1500\n",
         positions: 2,
         room: 0,
         number: 24,
@@ -213,7 +213,7 @@ static DENIALS: [Denial; 15] = [
     Denial {
         name: "an empty table",
         bank: b":20:S7\n:25:1\n:28C:7\n:60F:C240301EUR10,\n:61:240302C5,NTRFA\n:61:240302C5,NTRFB\n:62F:C240303EUR20,\n-\n",
-        book: b"B,EUR,7,240301,1000\n_e,240302,240302,500,A,x\n_z,1,240303,1500\n",
+        book: b"B,EUR,7,240301,1000\nE,240302,240302,500,A,x\nZ,1,240303,1500\n",
         positions: 0,
         room: 0,
         number: 20,
@@ -222,7 +222,7 @@ static DENIALS: [Denial; 15] = [
     Denial {
         name: "a table of 8,193 positions",
         bank: b":20:S7\n:25:1\n:28C:7\n:60F:C240301EUR10,\n:61:240302C5,NTRFA\n:61:240302C5,NTRFB\n:62F:C240303EUR20,\n-\n",
-        book: b"B,EUR,7,240301,1000\n_e,240302,240302,500,A,x\n_z,1,240303,1500\n",
+        book: b"B,EUR,7,240301,1000\nE,240302,240302,500,A,x\nZ,1,240303,1500\n",
         positions: 8193,
         room: 75,
         number: 20,
@@ -231,7 +231,7 @@ static DENIALS: [Denial; 15] = [
     Denial {
         name: "the bank closes before it opens",
         bank: b":20:S7\n:25:1\n:28C:7\n:60F:C240301EUR10,\n:61:240302C5,NTRFA\n:61:240302C5,NTRFB\n:62F:C240229EUR20,\n-\n",
-        book: b"B,EUR,7,240301,1000\n_e,240302,240302,500,A,x\n_z,1,240303,1500\n",
+        book: b"B,EUR,7,240301,1000\nE,240302,240302,500,A,x\nZ,1,240303,1500\n",
         positions: 3,
         room: 75,
         number: 23,
@@ -240,7 +240,7 @@ static DENIALS: [Denial; 15] = [
     Denial {
         name: "the book closes before the bank opens",
         bank: b":20:S7\n:25:1\n:28C:7\n:60F:C240301EUR10,\n:61:240302C5,NTRFA\n:61:240302C5,NTRFB\n:62F:C240303EUR20,\n-\n",
-        book: b"B,EUR,7,240301,1000\n_e,240302,240302,500,A,x\n_z,1,240229,1500\n",
+        book: b"B,EUR,7,240301,1000\nE,240302,240302,500,A,x\nZ,1,240229,1500\n",
         positions: 3,
         room: 75,
         number: 23,
@@ -249,7 +249,7 @@ static DENIALS: [Denial; 15] = [
     Denial {
         name: "the bank closes before it opens, and the table is too small",
         bank: b":20:S7\n:25:1\n:28C:7\n:60F:C240301EUR10,\n:61:240302C5,NTRFA\n:61:240302C5,NTRFB\n:62F:C240229EUR20,\n-\n",
-        book: b"B,EUR,7,240301,1000\n_e,240302,240302,500,A,x\n_z,1,240303,1500\n",
+        book: b"B,EUR,7,240301,1000\nE,240302,240302,500,A,x\nZ,1,240303,1500\n",
         positions: 1,
         room: 75,
         number: 23,
@@ -258,7 +258,7 @@ static DENIALS: [Denial; 15] = [
     Denial {
         name: "the bank's text is refused",
         bank: b":20:S7\n:25:1\n:28C:7\n:60F:C240301EUR10,\n:61:240302C5,NTRFA\n:61:240302C5,NTRFB\n:62F:C240303EUR21,\n-\n",
-        book: b"B,EUR,7,240301,1000\n_e,240302,240302,500,A,x\n_z,1,240303,1500\n",
+        book: b"B,EUR,7,240301,1000\nE,240302,240302,500,A,x\nZ,1,240303,1500\n",
         positions: 3,
         room: 75,
         number: 7,
@@ -276,7 +276,7 @@ static DENIALS: [Denial; 15] = [
     Denial {
         name: "the book's text is refused",
         bank: b":20:S7\n:25:1\n:28C:7\n:60F:C240301EUR10,\n:61:240302C5,NTRFA\n:61:240302C5,NTRFB\n:62F:C240303EUR20,\n-\n",
-        book: b"B,EUR,7,240301,1000\n_e,240302,240302,500,A,x\n_z,2,240303,1500\n",
+        book: b"B,EUR,7,240301,1000\nE,240302,240302,500,A,x\nZ,2,240303,1500\n",
         positions: 3,
         room: 75,
         number: 9,
@@ -285,7 +285,7 @@ static DENIALS: [Denial; 15] = [
     Denial {
         name: "the book's text ends early, and the table is empty",
         bank: b":20:S7\n:25:1\n:28C:7\n:60F:C240301EUR10,\n:61:240302C5,NTRFA\n:61:240302C5,NTRFB\n:62F:C240303EUR20,\n-\n",
-        book: b"B,EUR,7,240301,1000\n_e,240302,240302,500,A,x\n_z,1,240303,1500",
+        book: b"B,EUR,7,240301,1000\nE,240302,240302,500,A,x\nZ,1,240303,1500",
         positions: 0,
         room: 75,
         number: 12,
@@ -346,7 +346,7 @@ fn statement_of(heap: Global, count: usize) -> Result<Vec<u8>, AllocError> {
 
 #[test]
 fn most_items(rt: HostRuntime) -> Result<(), Fail> {
-    let book = b"B,EUR,7,240301,1000\n_z,0,240301,1000\n";
+    let book = b"B,EUR,7,240301,1000\nZ,0,240301,1000\n";
     let most = statement_of(rt.alloc(), 512)?;
     assert_eq!(rt; refused_with(rt.alloc(), &most, book)?, None);
     let over = statement_of(rt.alloc(), 513)?;
