@@ -1,9 +1,9 @@
 mod asked;
-mod book_lines;
-mod fields;
+mod cash_book_lines;
 mod frame;
 mod reports;
 mod sizes;
+mod stated_values;
 mod statement_lines;
 mod statement_order;
 mod texts;
