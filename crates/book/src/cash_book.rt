@@ -14,7 +14,7 @@ use source::{Head, Source};
 use text::{content, find, scan};
 
 // A cash book whose text has been read to its end and not refused; its entries are read again from `at` on, one by one.
-// Days and closing are kept as plain numbers: the checker does not yet cover an answer that holds both a reference and a day or an amount.
+// Days and closing are kept as plain numbers, and `head` makes values of them again.
 #[derive(Drop)]
 pub struct CashBook<'a> {
     text: &'a [u8],

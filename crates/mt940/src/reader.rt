@@ -22,7 +22,7 @@ use text::{content, find, scan};
 const LONGEST: usize = 1_048_576;
 
 // A statement whose text has been read to its end and not refused; its entries are read again from `at` on, one by one.
-// It keeps its days and its closing as plain numbers: a result that holds a reference takes no value that is more.
+// Days and closing are kept as plain numbers, and `head` makes values of them again.
 #[derive(Drop)]
 pub struct Mt940<'a> {
     text: &'a [u8],

@@ -24,7 +24,7 @@ pub struct Head {
 pub trait Source {
     const SIDE: Side;
 
-    // The side, as clauses name it: none can name `SIDE`.
+    // The side, as clauses name it.
     ghost belongs: { Side };
 
     // What the source means now.
@@ -36,7 +36,7 @@ pub trait Source {
     // The law, which each source shows of itself.
     ghost lawful: { (s : Self) → ready s → Lawful (meaning s) };
 
-    // The side, as generic code reads it: nothing is known there of `SIDE`.
+    // The side, as generic code reads it.
     fn which() -> Side
         ensures { result ≡ belongs };
 
