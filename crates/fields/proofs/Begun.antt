@@ -1,5 +1,5 @@
 -- The longest run, cut at its comma, is what the text begins with; and the other way round.
-use Rattle.std.proofs.Common.{◌≡◌, ℕ, suc, ◌+◌, ◌-◌, ◌*◌, ◌^◌, ◌≤◌, true, false, ◌&&◌, eqb, leb, List, [], ◌∷◌, ◌++◌, length, take, drop, pos, Some, None, Option, sym, refl, ap, ◌∙◌, subst, inl, inr, arith}
+use Rattle.std.proofs.Common.{◌≡◌, ℕ, suc, ◌+◌, ◌-◌, ◌*◌, ◌^◌, ◌≤◌, true, false, ◌&&◌, eqb, leb, List, [], ◌∷◌, ◌++◌, length, take, drop, pos, Some, None, Option, Result, sym, refl, ap, ◌∙◌, subst, inl, inr, arith}
 use Rattle.std.proofs.lemmas.List.{append_assoc, take-append-drop, take_at, length-append}
 use Rattle.std.proofs.lemmas.Bool.{and_parts, and_from, cases_Bool, cond-true, cond-false, or_right, eqb-true, ne_eqb, eq-eqb, le-leb, leb-true}
 use Rattle.domain.specs.declared.amount.Amount.{Amount}
@@ -13,6 +13,7 @@ use Rattle.fields.specs.Runs.{is_digit, all_digits, in_run, all_in_run, run_leng
 use Rattle.fields.proofs.Parts.{formed_parts, digits_before, digits_behind, all_in_run_lem, length_run}
 use Rattle.fields.proofs.Readings.{read, amount_minor, with_parts}
 use Rattle.std.specs.Option.{ok_or}
+use Rattle.domain.specs.declared.refusal.Refusal.{Refusal}
 use Rattle.domain.specs.declared.refusal.Refusal.TheVariants.{BadAmount}
 use Rattle.fields.specs.Written.{place_value, Ends, Begins, ReadsAmount}
 use Rattle.fields.proofs.Values.{worth_places}
@@ -87,7 +88,7 @@ joined (b ∷ ds) es p q =
     }
 
 -- the minor units of digits about a comma, by their places
-placed : (d : ℕ) (ds es : List ℕ) → worth ds * 10 ^ d + worth es * 10 ^ (d - length es) ≡ place_value ds * 10 ^ d + place_value es * 10 ^ (d - length es)
+pub placed : (d : ℕ) (ds es : List ℕ) → worth ds * 10 ^ d + worth es * 10 ^ (d - length es) ≡ place_value ds * 10 ^ d + place_value es * 10 ^ (d - length es)
 placed d ds es =
     ap (λ (w : ℕ). w * 10 ^ d + worth es * 10 ^ (d - length es)) (worth_places ds) ∙ ap (λ (w : ℕ). place_value ds * 10 ^ d + w * 10 ^ (d - length es)) (worth_places es)
 
@@ -117,7 +118,7 @@ by_run digits text a n t e =
       read = m.0 ∙ sym (length_run text) ∙ k;
     }
 
-begins : (digits : Digits) (text : List ℕ) (a : Amount) (n : ℕ) → comma_amount digits text ≡ Some (a, n) → Begins digits text a n
+pub begins : (digits : Digits) (text : List ℕ) (a : Amount) (n : ℕ) → comma_amount digits text ≡ Some (a, n) → Begins digits text a n
 unfolding comma_amount
 begins digits text a n e =
     let some = with_length (run_length text) (as_amount (pos (minor_of (digit_count digits) (run_of text)))) in
@@ -128,7 +129,7 @@ begins digits text a n e =
           absurd (let z : ◌≡◌ {A = ℕ} 0 1 = cc in omega arith)
     ]
 
-stands : (digits : Digits) (text : List ℕ) (a : Amount) (n : ℕ) → Begins digits text a n → comma_amount digits text ≡ Some (a, n)
+pub stands : (digits : Digits) (text : List ℕ) (a : Amount) (n : ℕ) → Begins digits text a n → comma_amount digits text ≡ Some (a, n)
 stands digits text a n b =
     let ds = b.before in
     let es = b.behind in
@@ -163,5 +164,5 @@ by_reading : (digits : Digits) (text : List ℕ) (o : Option (Amount × ℕ)) �
 by_reading digits text (Some p) e = begins digits text p.0 p.1 e
 by_reading digits text None e = λ a n b. let s = stands digits text a n b in let z : ◌≡◌ {A = ℕ} 0 1 = cc in omega arith
 
-pub reads_amount : (digits : Digits) (text : List ℕ) → ReadsAmount digits text (ok_or (comma_amount digits text) BadAmount)
-reads_amount digits text = by_reading digits text (comma_amount digits text) refl
+pub reads_amount : (digits : Digits) (text : List ℕ) (r : Result (Amount × ℕ) Refusal) → r ≡ ok_or (comma_amount digits text) BadAmount → ReadsAmount digits text r
+reads_amount digits text r e = subst (ReadsAmount digits text) (sym e) (by_reading digits text (comma_amount digits text) refl)

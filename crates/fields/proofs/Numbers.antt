@@ -77,5 +77,5 @@ by_units : (text : List ℕ) (o : Option Amount) → units_of text ≡ o → Rea
 by_units text (Some a) e = units_of_lem text a e
 by_units text None e = λ a u. let s = of_units text a u in let z : ◌≡◌ {A = ℕ} 0 1 = cc in omega arith
 
-pub reads_units : (text : List ℕ) → ReadsUnits text (units_of text)
-reads_units text = by_units text (units_of text) refl
+pub reads_units : (text : List ℕ) (r : Option Amount) → r ≡ units_of text → ReadsUnits text r
+reads_units text r e = by_units text r (sym e)

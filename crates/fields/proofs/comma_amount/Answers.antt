@@ -1,11 +1,10 @@
-use Rattle.std.proofs.Common.{sym, ap, ◌∙◌, subst, arith}
+use Rattle.std.proofs.Common.{sym, ap, ◌∙◌, arith}
 use Rattle.std.specs.Option.{ok_or}
 use Rattle.domain.specs.declared.refusal.Refusal.TheVariants.{BadAmount}
 use Rattle.fields.specs.Runs.{all_in_run}
 use Rattle.fields.specs.Commas.{with_length}
 use Rattle.fields.proofs.Parts.{all_in_run_lem, whole}
 use Rattle.fields.proofs.Readings.{read, unread, at_most_three, taken}
-use Rattle.fields.specs.Written.{ReadsAmount}
 use Rattle.fields.proofs.Begun.{reads_amount}
 use Rattle.fields.proofs.comma_amount.Goals as goal
 
@@ -13,7 +12,7 @@ pub returns-then-not-is_formed : goal.returns-then-not-is_formed
 returns-then-not-is_formed c =
     let bytes = c.args.bytes.now in
     let e = ap (λ o. ok_or o BadAmount) (sym (unread c.args.digits bytes _ c.count-count.result c.count-count.ensures (whole bytes c.run_length-length.result c.run_length-length.ensures.is) (sym c.if-not-is_formed.ensures))) in
-    record { taken = tt; is = e; law = subst (ReadsAmount c.args.digits bytes) (sym e) (reads_amount c.args.digits bytes) }
+    record { taken = tt; is = e; law = reads_amount c.args.digits bytes _ e }
 
 pub minor-requires : goal.minor-requires
 minor-requires c =
@@ -34,7 +33,7 @@ returns-in-Some c =
     record {
       taken = taken c.args.digits bytes c.in-Some.amount c.run_length-length.result (sym e);
       is = k;
-      law = subst (ReadsAmount c.args.digits bytes) (sym k) (reads_amount c.args.digits bytes);
+      law = reads_amount c.args.digits bytes _ k;
     }
 
 pub returns-in-None : goal.returns-in-None
@@ -43,4 +42,4 @@ returns-in-None c =
     let w = whole bytes c.run_length-length.result c.run_length-length.ensures.is in
     let r = read c.args.digits bytes _ c.count-count.result c.minor.result c.run_length-length.result c.count-count.ensures w (sym c.if-not-is_formed.ensures) c.minor.ensures.is c.run_length-length.ensures.is in
     let k = ap (λ o. ok_or o BadAmount) (ap (with_length c.run_length-length.result) c.in-None.ensures ∙ sym r) in
-    record { taken = tt; is = k; law = subst (ReadsAmount c.args.digits bytes) (sym k) (reads_amount c.args.digits bytes) }
+    record { taken = tt; is = k; law = reads_amount c.args.digits bytes _ k }

@@ -1,8 +1,7 @@
-use Rattle.std.proofs.Common.{sym, ap, ◌∙◌, arith, subst}
+use Rattle.std.proofs.Common.{sym, ap, ◌∙◌, arith}
 use Rattle.std.proofs.lemmas.List.{take_rest, get_or_past}
 use Rattle.fields.specs.Runs.{numeral_of}
 use Rattle.fields.specs.Units.{minus_of, plus_of}
-use Rattle.fields.specs.Written.{ReadsUnits}
 use Rattle.fields.proofs.Numbers.{reads_units}
 use Rattle.fields.proofs.Marks.{units_minus, units_plus}
 use Rattle.fields.proofs.units.Goals as goal
@@ -16,10 +15,10 @@ returns-then-bytes-eq45 c =
     elim c.match-numeral.branch [
       | in-Some w ↦
           let e = w.result-is ∙ w.negative.ensures ∙ ap minus_of (sym w.in-Some.is ∙ rest) ∙ whole in
-          record { is = e; law = subst (ReadsUnits bs) (sym e) (reads_units bs) }
+          record { is = e; law = reads_units bs _ e }
       | in-None w ↦
           let e = w.result-is ∙ ap minus_of (sym w.in-None.is ∙ rest) ∙ whole in
-          record { is = e; law = subst (ReadsUnits bs) (sym e) (reads_units bs) }
+          record { is = e; law = reads_units bs _ e }
     ]
 
 pub returns-in-Some-numeral : goal.returns-in-Some-numeral
@@ -30,7 +29,7 @@ returns-in-Some-numeral c =
       | else-bytes-gt0-via-then-bytes-gt0+else-bytes-eq45 w ↦ w.if-bytes-eq45.false e
       | else-bytes-gt0-via-else-bytes-gt0 w ↦ omega (arith, e, get_or_past bs 0 0 (omega (arith, w.if-bytes-gt0.false)))
     ])) in
-    record { is = e; law = subst (ReadsUnits bs) (sym e) (reads_units bs) }
+    record { is = e; law = reads_units bs _ e }
 
 pub returns-in-None-numeral : goal.returns-in-None-numeral
 returns-in-None-numeral c =
@@ -40,4 +39,4 @@ returns-in-None-numeral c =
       | else-bytes-gt0-via-then-bytes-gt0+else-bytes-eq45 w ↦ w.if-bytes-eq45.false e
       | else-bytes-gt0-via-else-bytes-gt0 w ↦ omega (arith, e, get_or_past bs 0 0 (omega (arith, w.if-bytes-gt0.false)))
     ])) in
-    record { is = e; law = subst (ReadsUnits bs) (sym e) (reads_units bs) }
+    record { is = e; law = reads_units bs _ e }
