@@ -38,8 +38,8 @@ struct Found {
 fn admitted(text: &[u8], currency: &[u8], digits: u8) -> Result<Currency, Refusal>
     ensures { result ≡ admitted_of text.now currency.now digits }
 {
-    let _ = Digits::new(digits)?;
-    let own = Currency::new(currency)?;
+    let _ = Digits::try_from(digits)?;
+    let own = Currency::try_from(currency)?;
     if text.len() > 1_048_576 {
         return Err(Refusal::TooMuch);
     }
@@ -74,13 +74,13 @@ fn seek(text: &[u8], start: usize) -> Option<Found>
 fn day_at(number: u16) -> Day
     ensures { result ≡ day_at number }
 {
-    Day::new(number).unwrap_or(Day::FIRST)
+    Day::try_from(number).unwrap_or(Day::FIRST)
 }
 
 fn amount_at(minor: i64) -> Amount
     ensures { result ≡ amount_at minor }
 {
-    Amount::new(minor).unwrap_or(Amount::ZERO)
+    Amount::try_from(minor).unwrap_or(Amount::ZERO)
 }
 
 impl<'a> CashBook<'a> {

@@ -8,7 +8,6 @@ use book_lines::reading::line_in;
 use domain::amount::Amount;
 use domain::currency::Currency;
 use domain::day::Day;
-use domain::reference::same_bytes;
 use domain::refusal::Refusal;
 use text::Reading;
 
@@ -57,7 +56,7 @@ fn is_own(own: Currency, stated: Option<Currency>) -> bool
     ensures { result ≡ is_own own stated }
 {
     match stated {
-        Some(currency) => same_bytes(&currency.code(), &own.code()),
+        Some(currency) => currency == own,
         None => false,
     }
 }

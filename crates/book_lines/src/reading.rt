@@ -10,7 +10,6 @@ use calendar::day_in;
 use domain::currency::Currency;
 use domain::entry::{Entry, Kind, Place};
 use domain::key::Key;
-use domain::reference::same_bytes;
 use fields::{is_digits, small_number, units};
 use text::is_formed;
 
@@ -25,13 +24,13 @@ fn is_date(bytes: &[u8]) -> bool
 fn currency_in(bytes: &[u8]) -> Option<Currency>
     ensures { result ≡ as_currency bytes.now }
 {
-    Currency::new(bytes).ok()
+    Currency::try_from(bytes).ok()
 }
 
 fn key_in(bytes: &[u8]) -> Option<Key>
     ensures { result ≡ as_key bytes.now }
 {
-    Key::new(bytes).ok()
+    Key::try_from(bytes).ok()
 }
 
 // What a line tagged B states: none where it has not its fields.
@@ -92,16 +91,16 @@ fn closing_in(line: &[u8]) -> Option<Line>
 fn tagged(tag: &[u8], line: &[u8]) -> Option<Line>
     ensures { result ≡ tagged_of tag.now (fields_of line.now) }
 {
-    if same_bytes(tag, b"B") {
+    if tag == b"B".as_slice() {
         return opening_in(line);
     }
-    if same_bytes(tag, b"E") {
+    if tag == b"E".as_slice() {
         return row_in(line, Kind::Ordinary);
     }
-    if same_bytes(tag, b"R") {
+    if tag == b"R".as_slice() {
         return row_in(line, Kind::Reversal);
     }
-    if same_bytes(tag, b"Z") {
+    if tag == b"Z".as_slice() {
         return closing_in(line);
     }
     None

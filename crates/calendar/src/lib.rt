@@ -52,7 +52,7 @@ fn day_of(yy: u8, mm: u8, dd: u8) -> Option<u16>
 }
 
 // Whether these are six digits.
-fn is_date(date: &[u8]) -> bool
+pub fn is_date(date: &[u8]) -> bool
     ensures { result ≡ is_date date.now }
 {
     date.len() == 6 && is_digits(date)
@@ -70,7 +70,7 @@ fn two_at(date: &[u8], i: usize) -> u8
 fn day_at(n: u16) -> Option<Day>
     ensures { result ≡ as_day n }
 {
-    Day::new(n).ok()
+    Day::try_from(n).ok()
 }
 
 // The day of a date YYMMDD.

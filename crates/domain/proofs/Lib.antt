@@ -1,4 +1,3 @@
 pub mod Threes
 pub mod Same
 pub mod Sames
-pub mod Packs

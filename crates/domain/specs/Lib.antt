@@ -1,5 +1,6 @@
 pub mod Limits
 pub mod Refusals
+pub mod Refusing
 pub mod Currencies
 pub mod Accounts
 pub mod Makers

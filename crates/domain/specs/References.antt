@@ -1,19 +1,17 @@
 -- References and their keys.
-use Rattle.std.specs.Prelude.{◌≡◌, ℕ, zero, suc, ◌+◌, ◌*◌, Bool, true, false, cond, ◌&&◌, ◌||◌, List, [], ◌∷◌, length, drop, codes, ◌==◌, nat_le}
+use Rattle.std.specs.Prelude.{◌≡◌, ℕ, zero, suc, ◌+◌, ◌*◌, Bool, true, cond, ◌&&◌, ◌||◌, List, [], ◌∷◌, length, drop, codes, nat_le}
+use Rattle.std.specs.List.{list_all}
+use Rattle.std.specs.Str.{bytes_eq}
 
 abbrev pub is_plain : ℕ → Bool
 is_plain b = nat_le 32 b && nat_le b 126
 
 -- each byte is one from 32 to 126
 abbrev pub plain : List ℕ → Bool
-plain [] = true
-plain (b ∷ bs) = is_plain b && plain bs
+plain bytes = list_all is_plain bytes
 
 abbrev pub same_bytes : List ℕ → List ℕ → Bool
-same_bytes [] [] = true
-same_bytes [] (y ∷ ys) = false
-same_bytes (x ∷ xs) [] = false
-same_bytes (x ∷ xs) (y ∷ ys) = x == y && same_bytes xs ys
+same_bytes a b = bytes_eq a b
 
 -- a reference has up to 16 bytes from 32 to 126
 abbrev pub is_reference : List ℕ → Bool

@@ -4,6 +4,7 @@ ghost use Rattle.std.specs.Option.{ok_or};
 ghost use Rattle.domain.specs.Accounts.{as_digits, digit_count};
 ghost use Rattle.domain.specs.Currencies.{is_capital as is_capital_byte, is_currency};
 ghost use Rattle.domain.specs.Makers.{as_amount, as_currency, as_day, is_amount, is_day};
+ghost use Rattle.domain.specs.declared.refusal.Refusal.TheVariants.{BadAmount, BadCurrency, NoSuchDay};
 
 use crate::amount::Amount;
 use crate::currency::Currency;
@@ -14,7 +15,7 @@ use crate::refusal::Refusal;
 fn is_amount(raw: i64) -> bool
     ensures { result ≡ is_amount raw }
 {
-    -99_999_999_999_999 <= raw && raw <= 99_999_999_999_999
+    (-99_999_999_999_999..=99_999_999_999_999).contains(&raw)
 }
 
 fn is_day(raw: u16) -> bool
@@ -23,10 +24,12 @@ fn is_day(raw: u16) -> bool
     raw <= 36524
 }
 
-impl Amount {
-    pub fn new(raw: i64) -> Result<Amount, Refusal>
-        ensures { result ≡ ok_or (as_amount raw) Refusal.BadAmount }
-    {
+impl TryFrom<i64> for Amount {
+    type Error = Refusal;
+
+    ghost try_from_gives = { λ raw made. made ≡ ok_or (as_amount raw) BadAmount };
+
+    fn try_from(raw: i64) -> Result<Amount, Refusal> {
         if !is_amount(raw) {
             return Err(Refusal::BadAmount);
         }
@@ -34,10 +37,12 @@ impl Amount {
     }
 }
 
-impl Day {
-    pub fn new(raw: u16) -> Result<Day, Refusal>
-        ensures { result ≡ ok_or (as_day raw) Refusal.NoSuchDay }
-    {
+impl TryFrom<u16> for Day {
+    type Error = Refusal;
+
+    ghost try_from_gives = { λ raw made. made ≡ ok_or (as_day raw) NoSuchDay };
+
+    fn try_from(raw: u16) -> Result<Day, Refusal> {
         if !is_day(raw) {
             return Err(Refusal::NoSuchDay);
         }
@@ -48,7 +53,7 @@ impl Day {
 pub fn is_capital(b: u8) -> bool
     ensures { result ≡ is_capital_byte b }
 {
-    65 <= b && b <= 90
+    b.is_ascii_uppercase()
 }
 
 fn is_currency(code: &[u8]) -> bool
@@ -58,10 +63,12 @@ fn is_currency(code: &[u8]) -> bool
     code.len() == 3 && is_capital(code[0]) && is_capital(code[1]) && is_capital(code[2])
 }
 
-impl Currency {
-    pub fn new(code: &[u8]) -> Result<Currency, Refusal>
-        ensures { result ≡ ok_or (as_currency code.now) Refusal.BadCurrency }
-    {
+impl<'a> TryFrom<&'a [u8]> for Currency {
+    type Error = Refusal;
+
+    ghost try_from_gives = { λ code made. made ≡ ok_or (as_currency code.now) BadCurrency };
+
+    fn try_from(code: &'a [u8]) -> Result<Currency, Refusal> {
         if !is_currency(code) {
             return Err(Refusal::BadCurrency);
         }
@@ -69,7 +76,9 @@ impl Currency {
             code: [code[0], code[1], code[2]],
         })
     }
+}
 
+impl Currency {
     pub fn code(self) -> [u8; 3]
         ensures { result ≡ self.code }
     {
@@ -77,10 +86,12 @@ impl Currency {
     }
 }
 
-impl Digits {
-    pub fn new(raw: u8) -> Result<Digits, Refusal>
-        ensures { result ≡ ok_or (as_digits raw) Refusal.BadAmount }
-    {
+impl TryFrom<u8> for Digits {
+    type Error = Refusal;
+
+    ghost try_from_gives = { λ raw made. made ≡ ok_or (as_digits raw) BadAmount };
+
+    fn try_from(raw: u8) -> Result<Digits, Refusal> {
         match raw {
             0 => Ok(Digits::Zero),
             2 => Ok(Digits::Two),
@@ -88,7 +99,9 @@ impl Digits {
             _ => Err(Refusal::BadAmount),
         }
     }
+}
 
+impl Digits {
     pub fn count(self) -> u8
         ensures { result ≡ digit_count self }
     {

@@ -2,7 +2,7 @@ ghost use Rattle.std.specs.Prelude.{◌≡◌};
 ghost use Rattle.domain.specs.Limits.{InAmount};
 
 // A whole number of minor units, from -99,999,999,999,999 to 99,999,999,999,999.
-#[derive(Clone, Copy)]
+#[derive(Clone, Copy, PartialEq, Eq, PartialOrd, Ord)]
 pub struct Amount {
     pub(crate) minor: i64,
     ghost within: { InAmount minor },

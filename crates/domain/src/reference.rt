@@ -1,8 +1,9 @@
-ghost use Rattle.std.specs.Prelude.{◌≡◌, ◌≤◌, length};
-ghost use Rattle.domain.specs.References.{is_reference, is_blank, plain, packed, same_bytes, high_of, low_of};
+ghost use Rattle.std.specs.Prelude.{◌≡◌, length};
+ghost use Rattle.domain.specs.References.{is_reference, is_blank, plain, packed, high_of, low_of};
 ghost use Rattle.std.specs.Option.{ok_or};
 ghost use Rattle.domain.specs.Makers.{as_key};
-ghost use Rattle.domain.specs.Keys.{is_blank_key, same_key, bytes_of};
+ghost use Rattle.domain.specs.Keys.{is_blank_key, bytes_of};
+ghost use Rattle.domain.specs.declared.refusal.Refusal.TheVariants.{Form};
 
 use crate::key::Key;
 use crate::refusal::Refusal;
@@ -11,37 +12,23 @@ use crate::refusal::Refusal;
 pub fn is_plain(bytes: &[u8]) -> bool
     ensures { result ≡ plain bytes.now }
 {
-    for b in bytes {
-        if *b < 32 || 126 < *b {
-            return false;
-        }
-    }
-    true
-}
-
-// Whether two runs of bytes are the same.
-pub fn same_bytes(a: &[u8], b: &[u8]) -> bool
-    ensures { result ≡ same_bytes a.now b.now }
-{
-    a == b
+    bytes.iter().all(|b| matches!(*b, 32..=126))
 }
 
 // The first eight bytes as a number, high byte first, with zero bytes where there are fewer.
 fn pack(bytes: &[u8]) -> u64
     ensures { result ≡ packed 8 0 bytes.now }
 {
-    let mut n: u64 = 0;
-    for i in 0..8 {
-        let b = if i < bytes.len() { bytes[i] } else { 0 };
-        n = n * 256 + b as u64;
-    }
-    n
+    let mut block = [0; 8];
+    let n = bytes.len().min(8);
+    block[..n].copy_from_slice(&bytes[..n]);
+    u64::from_be_bytes(block)
 }
 
 fn is_blank(reference: &[u8]) -> bool
     ensures { result ≡ is_blank reference.now }
 {
-    same_bytes(reference, b"") || same_bytes(reference, b"NONREF")
+    reference == b"".as_slice() || reference == b"NONREF".as_slice()
 }
 
 fn is_reference(bytes: &[u8]) -> bool
@@ -50,52 +37,38 @@ fn is_reference(bytes: &[u8]) -> bool
     bytes.len() <= 16 && is_plain(bytes)
 }
 
-fn high_of(reference: &[u8]) -> u64
-    ensures { result ≡ high_of reference.now }
+// The two numbers of a reference's key.
+fn words(reference: &[u8]) -> (u64, u64)
+    ensures high { result.0 ≡ high_of reference.now }
+    ensures low { result.1 ≡ low_of reference.now }
 {
     if is_blank(reference) {
-        0
-    } else {
-        pack(reference)
+        return (0, 0);
     }
+    let (front, back) = reference.split_at(reference.len().min(8));
+    (pack(front), pack(back))
 }
 
-fn low_of(reference: &[u8]) -> u64
-    ensures { result ≡ low_of reference.now }
-{
-    if is_blank(reference) {
-        return 0;
-    }
-    if reference.len() <= 8 {
-        0
-    } else {
-        pack(&reference[8..])
+impl<'a> TryFrom<&'a [u8]> for Key {
+    type Error = Refusal;
+
+    // The key of a reference, or 1 where these bytes are none.
+    ghost try_from_gives = { λ reference made. made ≡ ok_or (as_key reference.now) Form };
+
+    fn try_from(reference: &'a [u8]) -> Result<Key, Refusal> {
+        if !is_reference(reference) {
+            return Err(Refusal::Form);
+        }
+        let (high, low) = words(reference);
+        Ok(Key { high, low })
     }
 }
 
 impl Key {
-    // The key of a reference, or 1 where these bytes are none.
-    pub fn new(reference: &[u8]) -> Result<Key, Refusal>
-        ensures { result ≡ ok_or (as_key reference.now) Refusal.Form }
-    {
-        if !is_reference(reference) {
-            return Err(Refusal::Form);
-        }
-        let high = high_of(reference);
-        let low = low_of(reference);
-        Ok(Key { high, low })
-    }
-
     pub fn is_blank(self) -> bool
         ensures { result ≡ is_blank_key self }
     {
         self.high == 0 && self.low == 0
-    }
-
-    pub fn same(self, other: Key) -> bool
-        ensures { result ≡ same_key self other }
-    {
-        self.high == other.high && self.low == other.low
     }
 
     // The sixteen bytes that the key packs.

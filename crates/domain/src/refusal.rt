@@ -1,5 +1,9 @@
-ghost use Rattle.std.specs.Prelude.{◌≡◌};
+ghost use Rattle.std.specs.Prelude.{◌≡◌, Some};
 ghost use Rattle.domain.specs.Refusals.{number_of};
+ghost use Rattle.domain.specs.Refusing.{refused_at, refused_line};
+
+use std::error::Error;
+use std::fmt;
 
 // Why a text or a call is refused. Where several fit, the one with the smallest number is answered.
 #[derive(Clone, Copy, PartialEq, Eq, Debug)]
@@ -52,10 +56,39 @@ pub enum Refusal {
     OutputShort = 32,
 }
 
-impl Refusal {
-    pub fn number(self) -> u8
-        ensures { result ≡ number_of self }
-    {
-        self as u8
+impl From<Refusal> for u8 {
+    ghost from_gives = { λ why number. number ≡ number_of why };
+
+    fn from(why: Refusal) -> u8 {
+        why as u8
     }
 }
+
+// A refusal and the offset in its text of the line that it is for.
+#[derive(Clone, Copy, PartialEq, Eq, Debug)]
+pub struct Refused {
+    pub why: Refusal,
+    pub offset: usize,
+}
+
+// What is refused apart from any line, as by the ledger or before the first line, has the offset 0.
+impl From<Refusal> for Refused {
+    ghost from_gives = { λ why refused. refused ≡ refused_at why 0 };
+
+    fn from(why: Refusal) -> Refused {
+        Refused { why, offset: 0 }
+    }
+}
+
+// The line that stands in place of a report.
+impl fmt::Display for Refused {
+    ghost output = { λ refused. Some (refused_line refused) };
+
+    fn fmt<W: fmt::Write>(&self, f: &mut fmt::Formatter<W>) -> fmt::Result {
+        let number = u8::from(self.why);
+        let offset = self.offset;
+        write!(f, "REFUSED,{number},{offset}")
+    }
+}
+
+impl Error for Refused {}

@@ -80,7 +80,7 @@ fn positive(n: u64) -> Option<Amount>
     requires { n < 2 ^ 63 }
     ensures { result ≡ as_amount (pos n) }
 {
-    Amount::new(n as i64).ok()
+    Amount::try_from(n as i64).ok()
 }
 
 // So many minor units behind a minus, which does not stand before zero.
@@ -91,7 +91,7 @@ fn negative(n: u64) -> Option<Amount>
     if n == 0 {
         return None;
     }
-    Amount::new(-(n as i64)).ok()
+    Amount::try_from(-(n as i64)).ok()
 }
 
 // An amount in minor units, as the cash book writes it.

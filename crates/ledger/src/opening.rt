@@ -61,8 +61,8 @@ impl Ledger {
         ensures answer { result ≡ opened currency.now digits first_day bank book (length table.old) }
         ensures table { table.new ≡ if_ok result (replicate (length table.old) blank) table.old }
     {
-        let digits = Digits::new(digits)?;
-        let currency = Currency::new(currency)?;
+        let digits = Digits::try_from(digits)?;
+        let currency = Currency::try_from(currency)?;
         if is_bad_table(table.len(), 0) {
             return Err(Refusal::BadTable);
         }

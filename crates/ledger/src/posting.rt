@@ -19,7 +19,7 @@ impl SideRecord {
         if opening != self.closing.minor() {
             return Some(Refusal::WrongOpening);
         }
-        if day.number() < self.last_day.number() {
+        if day < self.last_day {
             return Some(Refusal::DayBefore);
         }
         None

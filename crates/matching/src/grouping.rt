@@ -94,7 +94,7 @@ fn undoes(reversal: &Item, x: &Item) -> bool
     let key = reversal.entry.key;
     is_open(x, reversal.side)
         && !key.is_blank()
-        && key.same(x.entry.key)
+        && key == x.entry.key
         && reversal.entry.amount.minor() == -x.entry.amount.minor()
 }
 

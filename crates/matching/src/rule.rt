@@ -31,7 +31,7 @@ impl MatchRule for ByReference {
 
     fn may_pair(&self, bank: &Entry, book: &Entry) -> bool {
         !bank.key.is_blank()
-            && bank.key.same(book.key)
+            && bank.key == book.key
             && bank.amount.minor() == book.amount.minor()
     }
 }

@@ -110,11 +110,11 @@ fn admitted(text: &[u8], currency: &[u8], digits: u8) -> Result<State, Refusal>
     ensures is { result ≡ admitted_of text.now currency.now digits }
     ensures again { IfOk result Sound }
 {
-    let digits = match Digits::new(digits) {
+    let digits = match Digits::try_from(digits) {
         Ok(digits) => digits,
         Err(why) => return Err(why),
     };
-    let own = match Currency::new(currency) {
+    let own = match Currency::try_from(currency) {
         Ok(own) => own,
         Err(why) => return Err(why),
     };
@@ -136,14 +136,14 @@ fn plus(balance: i64, amount: Amount) -> i64
 fn day_at(number: u16) -> Day
     ensures { result ≡ day_at number }
 {
-    Day::new(number).unwrap_or(Day::FIRST)
+    Day::try_from(number).unwrap_or(Day::FIRST)
 }
 
 // The amount of a number that an amount was kept as.
 fn amount_at(minor: i64) -> Amount
     ensures { result ≡ amount_at minor }
 {
-    Amount::new(minor).unwrap_or(Amount::ZERO)
+    Amount::try_from(minor).unwrap_or(Amount::ZERO)
 }
 
 impl<'a> Mt940<'a> {

@@ -89,7 +89,7 @@ fn key_of(reference: &[u8]) -> Option<Key>
     if !is_sized(reference, 16) {
         return None;
     }
-    match Key::new(reference) {
+    match Key::try_from(reference) {
         Ok(key) => Some(key),
         Err(_) => None,
     }

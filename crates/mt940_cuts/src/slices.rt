@@ -2,7 +2,6 @@
 ghost use Rattle.std.specs.Prelude.{◌≡◌, take, drop, slice_index};
 ghost use Rattle.mt940_cuts.specs.Slices.{starts_with, is_sized, is_date};
 
-use domain::reference::same_bytes;
 use fields::is_digits;
 
 // The first n bytes, or all where there are fewer.
@@ -38,7 +37,7 @@ pub fn byte_at(bytes: &[u8], at: usize) -> u8
 pub fn starts(line: &[u8], head: &[u8]) -> bool
     ensures { result ≡ starts_with line.now head.now }
 {
-    same_bytes(front(line, head.len()), head)
+    front(line, head.len()) == head
 }
 
 // Whether there are 1 to `most` bytes.

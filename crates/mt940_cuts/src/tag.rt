@@ -2,7 +2,6 @@ ghost use Rattle.std.specs.Prelude.{◌≡◌};
 ghost use Rattle.mt940_cuts.specs.Tags.{tag_of, plain_tag, width_of, is_entry_line, is_continuing};
 
 use crate::slices::starts;
-use domain::reference::same_bytes;
 
 // What a line is, by how it begins.
 #[derive(Clone, Copy)]
@@ -25,7 +24,7 @@ pub enum Tag {
 fn untagged(line: &[u8]) -> Option<Tag>
     ensures { result ≡ plain_tag line.now }
 {
-    if same_bytes(line, b"-") {
+    if line == b"-".as_slice() {
         return Some(Tag::Hyphen);
     }
     if starts(line, b":") || starts(line, b"-") {

@@ -8,7 +8,6 @@ use domain::amount::Amount;
 use domain::currency::Currency;
 use domain::day::Day;
 use domain::digits::Digits;
-use domain::reference::same_bytes;
 use domain::refusal::Refusal;
 use fields::run_length;
 use mt940_cuts::mark::Mark;
@@ -63,7 +62,7 @@ pub fn balance_in(
         Err(why) => return Err(why),
     };
     let own = currency.code();
-    if !same_bytes(front(behind(body, 7), 3), &own) {
+    if front(behind(body, 7), 3) != own.as_slice() {
         return Err(Refusal::BadCurrency);
     }
     Ok(Balance { day, amount })

@@ -24,8 +24,8 @@ pub fn signed(mark: Mark, unsigned: Amount) -> Result<Amount, Refusal>
     ensures { result ≡ ok_or (signed_as mark unsigned) Refusal.BadAmount }
 {
     match mark {
-        Mark::Credit | Mark::DebitReversed => Amount::new(unsigned.minor()),
-        Mark::Debit | Mark::CreditReversed => Amount::new(-unsigned.minor()),
+        Mark::Credit | Mark::DebitReversed => Amount::try_from(unsigned.minor()),
+        Mark::Debit | Mark::CreditReversed => Amount::try_from(-unsigned.minor()),
     }
 }
 

@@ -164,7 +164,7 @@ fn opened_first(state: State, body: &[u8]) -> Result<State, Refusal>
 fn is_repeat(state: State, balance: Balance) -> bool
     ensures { result ≡ repeats state balance }
 {
-    balance.day.number() == state.closing_day.number()
+    balance.day == state.closing_day
         && balance.amount.minor() == state.closing.minor()
 }
 

@@ -27,7 +27,7 @@ fn load(rt: &HostRuntime, name: &str) -> io::Result<Vec<u8>> {
 }
 
 fn print_refused(rt: &HostRuntime, why: Refusal, offset: usize) -> io::Result<()> {
-    let number = why.number();
+    let number = u8::from(why);
     println!(rt; "REFUSED,{number},{offset}")
 }
 

@@ -14,11 +14,11 @@ use source::{Head, Source};
 fn open_for(bank: &Head, book: &Head, table: &mut [Item]) -> Result<Ledger, Refusal>
     ensures { paired result table.new ≡ opened_at bank.now.opening_day bank.now.reached book.now.reached (length table.old) }
 {
-    let bank_opening = match Amount::new(bank.reached) {
+    let bank_opening = match Amount::try_from(bank.reached) {
         Ok(opening) => opening,
         Err(why) => return Err(why),
     };
-    let book_opening = match Amount::new(book.reached) {
+    let book_opening = match Amount::try_from(book.reached) {
         Ok(opening) => opening,
         Err(why) => return Err(why),
     };

@@ -33,9 +33,6 @@ pub trait Source {
     // What each making promises, and each call asks and keeps.
     ghost ready: { Self → Type 0 };
 
-    // The law, which each source shows of itself.
-    ghost lawful: { (s : Self) → ready s → Lawful (meaning s) };
-
     // The side, as generic code reads it.
     fn which() -> Side
         ensures { result ≡ belongs };
@@ -51,4 +48,7 @@ pub trait Source {
         ensures again { ready self.new }
         ensures first { result ≡ first_of (meaning self.old) }
         ensures moves { meaning self.new ≡ moved (meaning self.old) };
+
+    // The law, which each source shows of itself.
+    ghost lawful: { (s : Self) → ready s → Lawful (meaning s) };
 }

@@ -20,7 +20,7 @@ pub(crate) fn refused_as(
         Side::Book => CashBook::read(text, currency, digits).err(),
     };
     match why {
-        Some((why, offset)) => Some((why.number(), offset)),
+        Some((why, offset)) => Some((u8::from(why), offset)),
         None => None,
     }
 }

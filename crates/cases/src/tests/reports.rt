@@ -39,7 +39,7 @@ fn check_report(rt: &impl Abort, heap: Global, case: &Example, more: &[u8]) -> R
             Ok(())
         }
         Err((why, offset)) => {
-            assert_eq!(rt; (why.number(), offset), (0, 0), "{}", case.name);
+            assert_eq!(rt; (u8::from(why), offset), (0, 0), "{}", case.name);
             Ok(())
         },
     }
@@ -156,7 +156,7 @@ fn check_denial(rt: &impl Abort, heap: Global, case: &Denial) -> Result<(), Fail
     let mut out: Vec<u8> = vec![in heap; UNWRITTEN; case.room]?;
     let answer = match reconcile(case.bank, case.book, &mut table, &mut out) {
         Ok(_) => None,
-        Err((why, offset)) => Some((why.number(), offset)),
+        Err((why, offset)) => Some((u8::from(why), offset)),
     };
     assert_eq!(rt; answer, Some((case.number, case.offset)), "{}", case.name);
     assert!(rt; is_unwritten(&out), "{}", case.name);
@@ -316,7 +316,7 @@ fn refused_with(heap: Global, bank: &[u8], book: &[u8]) -> Result<Option<(u8, us
     let mut out: Vec<u8> = vec![in heap; UNWRITTEN; 32_768]?;
     Ok(match reconcile(bank, book, &mut table, &mut out) {
         Ok(_) => None,
-        Err((why, offset)) => Some((why.number(), offset)),
+        Err((why, offset)) => Some((u8::from(why), offset)),
     })
 }
 

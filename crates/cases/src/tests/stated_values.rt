@@ -53,7 +53,7 @@ fn check_entry(rt: &impl Abort, entry: Entry, wanted: &Stated) -> Result<(), Fai
     assert_eq!(rt; entry.amount.minor(), wanted.amount, "the entry at {at}");
     assert_eq!(rt; entry.kind, wanted.kind, "the entry at {at}");
     assert!(rt;
-        entry.key.same(Key::new(wanted.reference)?),
+        entry.key == Key::try_from(wanted.reference)?,
         "the entry at {at}"
     );
     assert_eq!(rt; entry.place.offset, wanted.offset, "the entry at {at}");

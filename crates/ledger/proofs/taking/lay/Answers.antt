@@ -13,5 +13,5 @@ returns g c =
       answer = omega (arith, c.loop-entry.invariant.1);
       ready = told.again;
       source =
-          all_spent (s.meaning c.args.source.now) (s.meaning c.loop-entry.source) (s.meaning c.next.new.self) gone told.moves (s.lawful c.next.new.self told.again) c.loop-entry.invariant.3;
+          all_spent (s.meaning c.args.source.now) (s.meaning c.loop-entry.source) (s.meaning c.next.new.self) gone told.moves (g.met.S.Source.lawful c.next.new.self told.again) c.loop-entry.invariant.3;
     }

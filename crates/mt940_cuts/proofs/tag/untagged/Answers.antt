@@ -2,9 +2,9 @@ use Rattle.std.proofs.Common.{rules}
 use Rattle.mt940_cuts.specs.Tags.{plain_tag}
 use Rattle.mt940_cuts.proofs.tag.untagged.Goals as goal
 
-pub returns-then-same_bytes : goal.returns-then-same_bytes
+pub returns-then-eq : goal.returns-then-eq
 unfolding plain_tag
-returns-then-same_bytes c = search rules
+returns-then-eq c = search rules
 
 pub returns-then-starts : goal.returns-then-starts
 unfolding plain_tag

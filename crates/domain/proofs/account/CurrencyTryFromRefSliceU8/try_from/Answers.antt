@@ -4,7 +4,7 @@ use Rattle.domain.specs.Currencies.{is_currency}
 use Rattle.domain.specs.declared.refusal.Refusal.TheVariants.{BadCurrency}
 use Rattle.domain.proofs.Same.{no_currency, as_currency_lem}
 use Rattle.domain.proofs.Threes.{three}
-use Rattle.domain.proofs.currency.Currency.new.Goals as goal
+use Rattle.domain.proofs.account.CurrencyTryFromRefSliceU8.try_from.Goals as goal
 
 pub returns-then-not-is_currency : goal.returns-then-not-is_currency
 returns-then-not-is_currency c = ap (λ o. ok_or o BadCurrency) (sym (no_currency c.args.code.now (sym c.if-not-is_currency.ensures.is)))

@@ -4,7 +4,7 @@ use Rattle.std.specs.Option.{ok_or}
 use Rattle.domain.specs.Makers.{as_amount, is_amount}
 use Rattle.domain.specs.declared.refusal.Refusal.TheVariants.{BadAmount}
 use Rattle.domain.proofs.Same.{as_amount_lem, no_amount, amount_within}
-use Rattle.domain.proofs.amount.Amount.new.Goals as goal
+use Rattle.domain.proofs.account.AmountTryFromI64.try_from.Goals as goal
 
 pub returns-then-not-is_amount : goal.returns-then-not-is_amount
 returns-then-not-is_amount c =
