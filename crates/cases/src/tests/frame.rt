@@ -34,10 +34,7 @@ pub(crate) fn check_lines(
     frame: &Frame,
     judged: &Judged,
 ) -> Result<(), Fail> {
-    let wanted = match judged.number {
-        Some(number) => Some((number, frame.offset)),
-        None => None,
-    };
+    let wanted = judged.number.map(|number| (number, frame.offset));
     for line in judged.lines {
         let text = framed(heap, frame, line)?;
         assert_eq!(rt; refused_with(frame.side, &text), wanted, "{}", *line);

@@ -1,4 +1,5 @@
 // Two texts, and what reconciling them prints or is refused with.
+use super::asked::number_and_offset;
 use domain::blank::blank;
 use domain::entry::Item;
 use reconcile::reconcile;
@@ -19,12 +20,7 @@ struct Example {
 }
 
 fn is_unwritten(out: &[u8]) -> bool {
-    for b in out {
-        if *b != UNWRITTEN {
-            return false;
-        }
-    }
-    true
+    out.iter().all(|b| *b == UNWRITTEN)
 }
 
 // Runs a case in an output of some bytes more than its report has.
@@ -38,8 +34,8 @@ fn check_report(rt: &impl Abort, heap: Global, case: &Example, more: &[u8]) -> R
             assert!(rt; is_unwritten(&out[n..]), "{}", case.name);
             Ok(())
         }
-        Err((why, offset)) => {
-            assert_eq!(rt; (u8::from(why), offset), (0, 0), "{}", case.name);
+        Err(refused) => {
+            assert_eq!(rt; number_and_offset(refused), (0, 0), "{}", case.name);
             Ok(())
         },
     }
@@ -154,10 +150,8 @@ struct Denial {
 fn check_denial(rt: &impl Abort, heap: Global, case: &Denial) -> Result<(), Fail> {
     let mut table: Vec<Item> = vec![in heap; blank(); case.positions]?;
     let mut out: Vec<u8> = vec![in heap; UNWRITTEN; case.room]?;
-    let answer = match reconcile(case.bank, case.book, &mut table, &mut out) {
-        Ok(_) => None,
-        Err((why, offset)) => Some((u8::from(why), offset)),
-    };
+    let answer = reconcile(case.bank, case.book, &mut table, &mut out).err();
+    let answer = answer.map(number_and_offset);
     assert_eq!(rt; answer, Some((case.number, case.offset)), "{}", case.name);
     assert!(rt; is_unwritten(&out), "{}", case.name);
     Ok(())
@@ -314,10 +308,8 @@ fn denials(rt: HostRuntime) -> Result<(), Fail> {
 fn refused_with(heap: Global, bank: &[u8], book: &[u8]) -> Result<Option<(u8, usize)>, AllocError> {
     let mut table: Vec<Item> = vec![in heap; blank(); 512]?;
     let mut out: Vec<u8> = vec![in heap; UNWRITTEN; 32_768]?;
-    Ok(match reconcile(bank, book, &mut table, &mut out) {
-        Ok(_) => None,
-        Err((why, offset)) => Some((u8::from(why), offset)),
-    })
+    let answer = reconcile(bank, book, &mut table, &mut out).err();
+    Ok(answer.map(number_and_offset))
 }
 
 #[test]
