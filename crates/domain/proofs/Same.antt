@@ -1,9 +1,11 @@
 -- Values that agree in their numbers are equal, since a fact beside a number has one proof; and what a maker makes.
-use Rattle.std.proofs.Common.{◌≡◌, ℕ, ◌≤◌, Bool, true, false, ◌&&◌, T, List, ℤ, Some, None, sym, refl, ap, ◌∙◌, subst, le→leb, leb→le}
+use Rattle.std.proofs.Common.{◌≡◌, ℕ, ◌≤◌, Bool, true, false, ◌&&◌, T, List, ℤ, Some, None, Ok, Err, Option, sym, refl, ap, ◌∙◌, subst, le→leb, leb→le}
 use mathlib.Core.Logic.{∥∥₁_prop}
 use mathlib.Core.Bool.{Bool-set}
 use native.Mathlib.Bridge.{le_prop}
 use Rattle.std.proofs.Props.{props}
+use Rattle.std.specs.Option.{ok_or}
+use Rattle.domain.specs.declared.refusal.Refusal.{Refusal}
 use Rattle.domain.specs.Limits.{InAmount}
 use Rattle.std.proofs.lemmas.Bool.{both_ways, false≢true}
 use Rattle.domain.specs.Currencies.{is_currency}
@@ -90,3 +92,10 @@ no_key r e = provided_no _ _ (λ t. both_ways (is_reference r) e (passes (is_ref
 pub as_key_lem : (k : Key) (r : List ℕ) → is_reference r ≡ true → k.high ≡ high_of r → k.low ≡ low_of r → as_key r ≡ Some k
 unfolding as_key
 as_key_lem k r t e f = provided_yes _ _ (true_t (is_reference r) t) ∙ ap Some (key_same _ _ (sym e) (sym f))
+
+-- what a maker answers where it makes a value, and where it makes none
+pub made : {X : Type 0} (o : Option X) (x : X) (why : Refusal) → o ≡ Some x → Ok x ≡ ok_or o why
+made o x why e = ap (λ p. ok_or p why) (sym e)
+
+pub unmade : {X : Type 0} (o : Option X) (why : Refusal) → o ≡ None → Err why ≡ ok_or o why
+unmade o why e = ap (λ p. ok_or p why) (sym e)
