@@ -8,3 +8,4 @@ pub mod References
 pub mod Keys
 pub mod Blanks
 pub mod Entries
+pub mod Items

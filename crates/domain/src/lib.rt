@@ -8,6 +8,8 @@ pub mod currency;
 pub mod day;
 pub mod digits;
 pub mod entry;
+pub mod item;
 pub mod key;
+pub mod limits;
 pub mod reference;
 pub mod refusal;
