@@ -1,7 +1,7 @@
-pub mod Scans
+pub mod Powers
 pub mod Parts
-pub mod Marks
-pub mod Readings
 pub mod Values
-pub mod Begun
+pub mod Readings
+pub mod Marks
 pub mod Numbers
+pub mod Begun

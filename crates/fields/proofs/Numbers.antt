@@ -1,37 +1,38 @@
 -- Numbers of so many digits, and amounts in minor units, are read exactly where a text writes one.
-use Rattle.std.proofs.Common.{◌≡◌, ℕ, true, cond, eqb, leb, List, [], ◌∷◌, length, get_or, pos, neg_ℤ, Some, None, Option, sym, refl, ap, ◌∙◌, subst, inl, inr, arith}
-use Rattle.std.proofs.lemmas.Bool.{and_parts, and_from, cases_Bool, cond-false, le-leb, leb-true, eqb-true, eqb-false, ne_eqb}
+use Rattle.std.proofs.Common.{◌≡◌, ℕ, cond, eqb, leb, List, [], ◌∷◌, length, get_or, pos, neg_ℤ, Some, None, Option, sym, refl, ap, ◌∙◌, subst, inl, inr, arith}
+use Rattle.std.proofs.lemmas.Bool.{and_parts, and_from, cases_Bool, cond-true, cond-false, le-leb, leb-true, eqb-true, eqb-false, ne_eqb}
 use Rattle.domain.specs.declared.amount.Amount.{Amount}
 use Rattle.domain.specs.Makers.{as_amount}
 use Rattle.domain.proofs.Same.{as_amount_lem}
 use Rattle.fields.specs.Runs.{is_digit, all_digits, is_numeral, numeral_of, worth}
 use Rattle.fields.specs.Units.{minus_of, plus_of, units_of}
-use Rattle.fields.specs.Written.{Writes, Units, ReadsUnits}
-use Rattle.fields.proofs.Parts.{numeral_parts, numeral_some, numeral_none}
+use Rattle.fields.specs.Written.{Writes, ReadsNumber, Units, ReadsUnits}
+use Rattle.std.proofs.lemmas.Option.{cond_some, none-some}
 use Rattle.fields.proofs.Readings.{amount_minor}
 use Rattle.fields.proofs.Marks.{units_minus, units_plus}
 use Rattle.fields.proofs.Values.{worth_places}
 
 -- numbers
-is_numeral_lem : (k : ℕ) (text : List ℕ) (n : ℕ) → Writes k text n → is_numeral k text ≡ true
-is_numeral_lem k text n w =
-    and_from (leb 1 (length text)) _ (le-leb _ _ w.some) (and_from (leb (length text) k) (all_digits text) (le-leb _ _ w.few) w.each)
-
-pub numeral_of_lem : (k : ℕ) (text : List ℕ) (n : ℕ) → Writes k text n → numeral_of k text ≡ Some n
-numeral_of_lem k text n w = sym (numeral_some k text (is_numeral_lem k text n w)) ∙ ap (λ (x : ℕ). Some x) (worth_places text ∙ sym w.value)
+numeral_of_lem : (k : ℕ) (text : List ℕ) (n : ℕ) → Writes k text n → numeral_of k text ≡ Some n
+unfolding numeral_of
+numeral_of_lem k text n w =
+    let t = and_from (leb 1 (length text)) _ (le-leb _ _ w.some) (and_from (leb (length text) k) (all_digits text) (le-leb _ _ w.few) w.each) in
+    cond-true (is_numeral k text) (Some (worth text)) None t ∙ ap (λ (x : ℕ). Some x) (worth_places text ∙ sym w.value)
 
 pub writes : (k : ℕ) (text : List ℕ) (n : ℕ) → numeral_of k text ≡ Some n → Writes k text n
-writes k text n e = elim (cases_Bool (is_numeral k text)) [
-  | inl t ↦
-      let p = numeral_parts k text t in
-      let s = numeral_some k text t ∙ e in
-      let v : worth text ≡ n = cc in
-      record { each = p.each; some = p.some; few = p.few; value = sym v ∙ worth_places text }
-  | inr f ↦ absurd (let s = numeral_none k text f ∙ e in let z : ◌≡◌ {A = ℕ} 0 1 = cc in omega arith)
-]
+unfolding numeral_of
+writes k text n e =
+    let c = cond_some (is_numeral k text) (worth text) n e in
+    let p = and_parts (leb 1 (length text)) _ c.0 in
+    let q = and_parts (leb (length text) k) _ p.1 in
+    record { each = q.1; some = leb-true _ _ p.0; few = leb-true _ _ q.0; value = sym c.1 ∙ worth_places text }
 
-pub no_number : (k : ℕ) (text : List ℕ) (n : ℕ) → numeral_of k text ≡ None → Writes k text n → ⊥
-no_number k text n e w = let s = numeral_of_lem k text n w in let z : ◌≡◌ {A = ℕ} 0 1 = cc in omega arith
+by_number : (k : ℕ) (text : List ℕ) (o : Option ℕ) → numeral_of k text ≡ o → ReadsNumber k text o
+by_number k text (Some n) e = writes k text n e
+by_number k text None e = λ n w. let s = numeral_of_lem k text n w in none-some n (sym e ∙ s)
+
+pub reads_number : (k : ℕ) (text : List ℕ) (r : Option ℕ) → r ≡ numeral_of k text → ReadsNumber k text r
+reads_number k text r e = by_number k text r (sym e)
 
 -- amounts in minor units
 no_minus : (text : List ℕ) (n : ℕ) → Writes 14 text n → get_or text 0 0 ≡ 45 → ⊥

@@ -1,29 +1,32 @@
 -- Amounts with a decimal comma.
-use Rattle.std.specs.Prelude.{◌≡◌, ℕ, ◌+◌, ◌-◌, ◌*◌, ◌^◌, ◌≤◌, Bool, cond, ◌&&◌, List, [], ◌∷◌, length, take, ℤ, pos, ◌≤ℤ◌, Some, None, codes, Option, ◌==◌, nat_le}
+use Rattle.std.specs.Prelude.{◌≡◌, ℕ, ◌+◌, ◌-◌, ◌*◌, ◌^◌, ◌≤◌, Bool, cond, ◌&&◌, List, length, ℤ, pos, ◌≤ℤ◌, Some, None, codes, Option, ◌==◌, nat_le}
 use Rattle.domain.specs.declared.amount.Amount.{Amount}
 use Rattle.domain.specs.declared.digits.Digits.{Digits}
 use Rattle.domain.specs.declared.digits.Digits.TheVariants.{Two}
 use Rattle.domain.specs.Accounts.{digit_count}
 use Rattle.domain.specs.Makers.{as_amount}
-use Rattle.fields.specs.Runs.{worth, run_length}
+use Rattle.std.specs.List.{count_by, before_first, after_first, take_while}
+use Rattle.std.specs.Option.{option_map, option_and_then}
+use Rattle.fields.specs.Runs.{worth, in_run, run_length}
 
 -- the longest run of digits and commas at the front
 abbrev pub run_of : List ℕ → List ℕ
-run_of bytes = take (run_length bytes) bytes
+run_of bytes = take_while in_run bytes
 
--- how many commas (44) there are
+-- 44 is a comma
+abbrev pub is_comma : ℕ → Bool
+is_comma b = b == 44
+
+-- how many commas there are
 abbrev pub commas : List ℕ → ℕ
-commas [] = 0
-commas (b ∷ bs) = cond (b == 44) 1 0 + commas bs
+commas bytes = count_by is_comma bytes
 
 -- the bytes before the first comma, and those behind it
 abbrev pub before : List ℕ → List ℕ
-before [] = []
-before (b ∷ bs) = cond (b == 44) [] (b ∷ before bs)
+before bytes = before_first is_comma bytes
 
 abbrev pub behind : List ℕ → List ℕ
-behind [] = []
-behind (b ∷ bs) = cond (b == 44) bs (behind bs)
+behind bytes = after_first is_comma bytes
 
 -- 2 to 15 bytes, one comma, at least one digit before it, at most d digits behind it
 abbrev pub is_formed : ℕ → List ℕ → Bool
@@ -33,14 +36,17 @@ is_formed d run = nat_le 2 (length run) && (nat_le (length run) 15 && (commas ru
 abbrev pub minor_of : ℕ → List ℕ → ℕ
 minor_of d run = worth (before run) * 10 ^ d + worth (behind run) * 10 ^ (d - length (behind run))
 
+-- the minor units of a run where it is formed so
+abbrev pub minor_in : ℕ → List ℕ → Option ℕ
+minor_in d run = cond (is_formed d run) (Some (minor_of d run)) None
+
 -- an amount with the number of bytes read
 abbrev pub with_length : ℕ → Option Amount → Option (Amount × ℕ)
-with_length n None = None
-with_length n (Some a) = Some (a, n)
+with_length n amount = option_map (λ a. (a, n)) amount
 
 -- the amount at the front of a text, and the number of bytes read; none where the run is not formed so, or it is too large for an amount
 unfoldable pub comma_amount : Digits → List ℕ → Option (Amount × ℕ)
-comma_amount digits bytes = cond (is_formed (digit_count digits) (run_of bytes)) (with_length (run_length bytes) (as_amount (pos (minor_of (digit_count digits) (run_of bytes))))) None
+comma_amount digits bytes = with_length (run_length bytes) (option_and_then (λ n. as_amount (pos n)) (minor_in (digit_count digits) (run_of bytes)))
 
 -- what was read is the whole run, of at most 15 bytes, and not below zero
 pub record Taken (bytes : List ℕ) (a : Amount) (n : ℕ) : Type 0 where
@@ -50,8 +56,7 @@ pub record Taken (bytes : List ℕ) (a : Amount) (n : ℕ) : Type 0 where
 
 -- an amount that was read, in plain numbers
 abbrev pub figure : Option (Amount × ℕ) → Option (ℤ × ℕ)
-figure None = None
-figure (Some p) = Some (p.0.minor, p.1)
+figure read = option_map (λ p. (p.0.minor, p.1)) read
 
 abbrev pub reads : List ℕ → Option (ℤ × ℕ)
 reads bytes = figure (comma_amount Two bytes)

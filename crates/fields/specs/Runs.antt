@@ -1,12 +1,13 @@
 -- Digits, the numbers that they write, and runs of digits and commas.
-use Rattle.std.specs.Prelude.{ℕ, suc, ◌+◌, ◌-◌, ◌*◌, Bool, true, cond, ◌&&◌, ◌||◌, List, [], ◌∷◌, length, Some, None, Option, ◌==◌, nat_le}
+use Rattle.std.specs.Prelude.{ℕ, ◌+◌, ◌-◌, ◌*◌, Bool, cond, ◌&&◌, ◌||◌, List, length, Some, None, Option, ◌==◌, nat_le}
+use Rattle.std.specs.Char.{is_ascii_digit}
+use Rattle.std.specs.List.{fold, list_all, prefix_len}
 
 abbrev pub is_digit : ℕ → Bool
-is_digit b = nat_le 48 b && nat_le b 57
+is_digit b = is_ascii_digit b
 
 abbrev pub all_digits : List ℕ → Bool
-all_digits [] = true
-all_digits (b ∷ bs) = is_digit b && all_digits bs
+all_digits bytes = list_all is_digit bytes
 
 -- 1 to k digits, and nothing else
 abbrev pub is_numeral : ℕ → List ℕ → Bool
@@ -14,8 +15,7 @@ is_numeral k ds = nat_le 1 (length ds) && (nat_le (length ds) k && all_digits ds
 
 -- the number that digits write behind the number w
 abbrev pub worth_after : ℕ → List ℕ → ℕ
-worth_after w [] = w
-worth_after w (d ∷ ds) = worth_after (w * 10 + (d - 48)) ds
+worth_after w ds = fold (λ n d. n * 10 + (d - 48)) w ds
 
 -- the number that digits write, the most significant first
 abbrev pub worth : List ℕ → ℕ
@@ -30,10 +30,8 @@ abbrev pub in_run : ℕ → Bool
 in_run b = b == 44 || is_digit b
 
 abbrev pub all_in_run : List ℕ → Bool
-all_in_run [] = true
-all_in_run (b ∷ bs) = in_run b && all_in_run bs
+all_in_run bytes = list_all in_run bytes
 
 -- how many bytes the longest run of digits and commas at the front has
 abbrev pub run_length : List ℕ → ℕ
-run_length [] = 0
-run_length (b ∷ bs) = cond (in_run b) (suc (run_length bs)) 0
+run_length bytes = prefix_len in_run bytes
