@@ -1,6 +1,6 @@
 -- A day's date names that day, and a date that names a day is that day's date.
-use Rattle.std.proofs.Common.{◌≡◌, ℕ, ◌+◌, ◌-◌, ◌/◌, ◌%◌, ◌<◌, ◌≤◌, Bool, true, false, ◌&&◌, T, eqb, leb, List, [], ◌∷◌, ◌++◌, length, get_or, take, Some, None, sym, refl, ap, ◌∙◌, inl, inr, arith, leb→le, length-append, length-take}
-use Rattle.std.proofs.lemmas.Bool.{and_parts, and_from, le-leb, leb-true, eqb-true, cond-true, cond-false, cases_Bool, eq-eqb, ne_eqb}
+use Rattle.std.proofs.Common.{◌≡◌, ℕ, ◌+◌, ◌-◌, ◌/◌, ◌%◌, ◌<◌, ◌≤◌, Bool, true, false, T, eqb, leb, List, [], ◌∷◌, ◌++◌, length, get_or, take, Some, None, sym, refl, ap, ◌∙◌, inl, inr, arith, leb→le}
+use Rattle.std.proofs.lemmas.Bool.{and_parts, and_from, le-leb, leb-true, eqb-true, cond-true, cond-false, cases_Bool, eq-eqb}
 use Rattle.std.proofs.lemmas.Bool.Decides.{nat_tests}
 use Rattle.domain.specs.declared.day.Day.{Day}
 use Rattle.domain.specs.Makers.{as_day, provided}
@@ -157,34 +157,6 @@ forth date d e = elim (cases_Bool (is_date date)) [
 ]
 
 -- MMDD in the year of a value date
-pub entry_none : (v m : List ℕ) → (length m ≡ 4 → ⊥) → None ≡ entry_day_of v m
-unfolding entry_day_of
-entry_none v m n = sym (cond-false (eqb (length m) 4) (day_in (take 2 v ++ m)) None (ne_eqb _ _ n))
-
 pub entry_some : (v m : List ℕ) → length m ≡ 4 → entry_day_of v m ≡ day_in (take 2 v ++ m)
 unfolding entry_day_of
 entry_some v m e = cond-true (eqb (length m) 4) (day_in (take 2 v ++ m)) None (eq-eqb _ _ e)
-
--- a value date without a year
-pub entry_short : (v m : List ℕ) → length m ≡ 4 → length v < 2 → None ≡ entry_day_of v m
-entry_short v m e h =
-    let l : length (take 2 v ++ m) ≡ length (take 2 v) + length m = length-append (take 2 v) m in
-    let k : length (take 2 v) ≤ length v = omega (arith, length-take 2 v) in
-    no_date (take 2 v ++ m) (ap (λ (x : Bool). x && all_digits (take 2 v ++ m)) (ne_eqb (length (take 2 v ++ m)) 6 (λ s. omega (arith, s, l, k)))) ∙ sym (entry_some v m e)
-
-same_six : (a b c d e f u v w x y z : ℕ) → a ≡ u → b ≡ v → c ≡ w → d ≡ x → e ≡ y → f ≡ z → a ∷ b ∷ c ∷ d ∷ e ∷ f ∷ [] ≡ u ∷ v ∷ w ∷ x ∷ y ∷ z ∷ []
-same_six a b c d e f u v w x y z p q r s t o = cc
-
--- the bytes of a day's date, from its month and that month's first day
-pub spelt : (n k first a b c d e f : ℕ) → k ≡ month_of n → first ≡ first_of k
-    → a ≡ 48 + (1980 + k / 12) % 100 / 10 → b ≡ 48 + (1980 + k / 12) % 100 % 10 → c ≡ 48 + (k % 12 + 1) / 10 → d ≡ 48 + (k % 12 + 1) % 10
-    → e ≡ 48 + (n - first + 1) / 10 → f ≡ 48 + (n - first + 1) % 10 → a ∷ b ∷ c ∷ d ∷ e ∷ f ∷ [] ≡ date_text n
-unfolding date_text
-spelt n k first a b c d e f m g p q r s t u =
-    same_six a b c d e f _ _ _ _ _ _ p q r s (t ∙ ap (λ (x : ℕ). 48 + (n - x + 1) / 10) g) (u ∙ ap (λ (x : ℕ). 48 + (n - x + 1) % 10) g)
-    ∙ ap (λ (j : ℕ). date_by j n) m
-
-pub same_day : (date : List ℕ) (yy mm dd : ℕ) → is_date date ≡ true → yy ≡ two_at date 0 → mm ≡ two_at date 2 → dd ≡ two_at date 4 → numbered (day_of yy mm dd) ≡ day_in date
-same_day date yy mm dd t p q r =
-    ap (λ (y : ℕ). numbered (day_of y mm dd)) p ∙ ap (λ (m : ℕ). numbered (day_of (two_at date 0) m dd)) q ∙ ap (λ (x : ℕ). numbered (day_of (two_at date 0) (two_at date 2) x)) r
-    ∙ sym (a_date date t)

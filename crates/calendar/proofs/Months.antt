@@ -1,6 +1,8 @@
 -- The month in which a day lies.
-use Rattle.std.proofs.Common.{◌≡◌, ℕ, zero, suc, ◌+◌, ◌/◌, ◌<◌, ◌≤◌, leb, sym, ap, ◌∙◌, inl, inr, arith}
+use Rattle.std.proofs.Common.{◌≡◌, ℕ, zero, suc, ◌+◌, ◌<◌, ◌≤◌, leb, sym, ap, ◌∙◌, inl, inr, arith, List, length, get_or, true, false, lit<}
 use Rattle.std.proofs.lemmas.Bool.{cases_lt, cond-true, cond-false, cond_both, le-leb, lt-leb, leb-true, leb-false}
+use Rattle.std.specs.List.Sorted.{IsPartitionedBy, IsPartitionPoint}
+use Rattle.std.proofs.lemmas.List.{get_or_default}
 use Rattle.calendar.specs.Calendar.{first_of, length_of, month_by, month_of}
 use Rattle.calendar.proofs.Steps.{first_suc, first_end, first_grows, first_most}
 
@@ -47,6 +49,30 @@ pub month_is : (n k : ℕ) → Lies n k → k ≡ month_of n
 unfolding month_of
 month_is n k h = sym (month_up 1199 k n (omega (arith, h.within)) h.from h.before)
 
--- no month has more than 31 days
-pub begin : (n : ℕ) → first_of (n / 31) ≤ n
-begin n = omega (arith, first_most (n / 31))
+-- a table of the months' first days
+pub record Firsts (xs : List ℕ) : Type 0 where
+  pub months : length xs ≡ 1200
+  pub each : (k : ℕ) → k < 1200 → get_or xs k 0 ≡ first_of k
+
+-- it parts at a day, since first days grow
+pub parted : (n : ℕ) (xs : List ℕ) → Firsts xs → IsPartitionedBy (λ d. leb d n) xs
+parted n xs t i j d h w e =
+    let a = get_or_default xs i d 0 (omega (arith, h, w)) in
+    let b = get_or_default xs j d 0 w in
+    le-leb _ _ (omega (arith, a, b, t.each i (omega (arith, t.months, h, w)), t.each j (omega (arith, t.months, w)), first_grows i j h, leb-true _ _ e))
+
+-- a month begins on each day or before it, and the last such month is the day's
+pub some_begun : (n i : ℕ) (xs : List ℕ) → Firsts xs → IsPartitionPoint (λ d. leb d n ≡ true) (λ d. leb d n ≡ false) xs i → 1 ≤ i
+some_begun n zero xs t p = absurd (omega (arith, t.each 0 (lit< tt), first_most 0, leb-false _ _ (p.1 0 0 (omega arith) (omega (arith, t.months)))))
+some_begun n (suc i) xs t p = omega arith
+
+pub last_begun : (n k i : ℕ) (xs : List ℕ) → n ≤ 36524 → Firsts xs → i ≤ length xs → IsPartitionPoint (λ d. leb d n ≡ true) (λ d. leb d n ≡ false) xs i → i ≡ suc k → Lies n k
+last_begun n k i xs h t w p e =
+    record {
+      within = omega (arith, t.months);
+      from = omega (arith, t.each k (omega (arith, t.months)), leb-true _ _ (p.0 k 0 (omega arith) (omega arith)));
+      before = elim (cases_lt i 1200) [
+        | inl l ↦ omega (arith, t.each i l, first_suc k, ap first_of e, leb-false _ _ (p.1 i 0 (omega arith) (omega (arith, t.months))))
+        | inr g ↦ omega (arith, first_suc k, first_end, ap first_of (let v : 1200 ≡ suc k = omega (arith, t.months) in v))
+      ];
+    }

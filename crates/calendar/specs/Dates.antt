@@ -1,5 +1,6 @@
 -- Dates as texts write them: YYMMDD and MMDD.
 use Rattle.std.specs.Prelude.{◌≡◌, ℕ, ◌+◌, ◌-◌, ◌*◌, ◌/◌, ◌%◌, Bool, cond, ◌&&◌, List, [], ◌∷◌, ◌++◌, length, take, Some, None, codes, Option, ◌==◌, slice_index}
+use Rattle.std.specs.Option.{option_and_then, option_map}
 use Rattle.domain.specs.declared.day.Day.{Day}
 use Rattle.domain.specs.Makers.{as_day}
 use Rattle.fields.specs.Runs.{all_digits}
@@ -10,8 +11,7 @@ abbrev pub two_at : List ℕ → ℕ → ℕ
 two_at date i = (slice_index date i - 48) * 10 + (slice_index date (i + 1) - 48)
 
 abbrev pub numbered : Option ℕ → Option Day
-numbered None = None
-numbered (Some n) = as_day n
+numbered number = option_and_then as_day number
 
 -- six digits, and nothing else
 abbrev pub is_date : List ℕ → Bool
@@ -39,8 +39,7 @@ date_text n = date_by (month_of n) n
 
 -- a day, in plain numbers
 abbrev pub day_number : Option Day → Option ℕ
-day_number None = None
-day_number (Some d) = Some d.number
+day_number day = option_map (λ d. d.number) day
 
 -- the worked figures; a day's date has six bytes; and each day has one date, each date one day
 pub record Stands : Type 0 where

@@ -1,13 +1,13 @@
 // Days and the dates that write them.
 #![tactic(auto)]
 
-ghost use Rattle.std.specs.Prelude.{◌≡◌, ◌+◌, ◌/◌, ◌%◌, ◌<◌, ◌≤◌, true, length, Some};
+ghost use Rattle.std.specs.Prelude.{◌≡◌, ◌+◌, ◌-◌, ◌*◌, ◌<◌, ◌≤◌, true, length, Some};
 ghost use Rattle.domain.specs.Makers.{as_day};
-ghost use Rattle.fields.specs.Runs.{all_digits};
+ghost use Rattle.fields.specs.Runs.{is_digit};
 ghost use Rattle.calendar.specs.Calendar.{day_of, days_in, first_of, is_day, length_of, month_of, year_of};
-ghost use Rattle.calendar.specs.Dates.{date_text, day_in, entry_day_of, is_date, two_at, Stands};
+ghost use Rattle.calendar.specs.Dates.{date_text, day_in, entry_day_of, is_date, two, Stands};
 
-use crate::table::first_day;
+use crate::table::first_days;
 use domain::day::Day;
 use fields::is_digits;
 
@@ -28,7 +28,8 @@ fn days_in(year: u16, month: u8) -> u8
     ensures { result ≡ days_in year month }
 {
     match month {
-        2 => { if year % 4 == 0 { 29 } else { 28 } }
+        2 if year % 4 == 0 => 29,
+        2 => 28,
         4 | 6 | 9 | 11 => 30,
         _ => 31,
     }
@@ -37,18 +38,18 @@ fn days_in(year: u16, month: u8) -> u8
 fn is_day(yy: u8, mm: u8, dd: u8) -> bool
     ensures { result ≡ is_day yy mm dd }
 {
-    yy <= 99 && 1 <= mm && mm <= 12 && 1 <= dd && dd <= days_in(year_of(yy), mm)
+    yy <= 99 && (1..=12).contains(&mm) && (1..=days_in(year_of(yy), mm)).contains(&dd)
 }
 
 // The number of the day that a two-digit year, a month and a day of the month name.
+#[tactic(auto, using(crate::proofs::Steps::first_most))]
 fn day_of(yy: u8, mm: u8, dd: u8) -> Option<u16>
     ensures { result ≡ day_of yy mm dd }
 {
-    if !is_day(yy, mm, dd) {
-        return None;
-    }
-    let month = 12 * (year_of(yy) as usize - 1980) + (mm as usize - 1);
-    Some(first_day(month) + (dd as u16 - 1))
+    is_day(yy, mm, dd).then(|| {
+        let month = 12 * (year_of(yy) as usize - 1980) + (mm as usize - 1);
+        first_days()[month] + (dd as u16 - 1)
+    })
 }
 
 // Whether these are six digits.
@@ -59,54 +60,40 @@ pub fn is_date(date: &[u8]) -> bool
 }
 
 // The number that two digits write.
-fn two_at(date: &[u8], i: usize) -> u8
-    requires within { i + 1 < length date.now }
-    requires each { all_digits date.now ≡ true }
-    ensures { result ≡ two_at date.now i }
+fn number(tens: u8, ones: u8) -> u8
+    requires first { is_digit tens ≡ true }
+    requires second { is_digit ones ≡ true }
+    ensures { result ≡ (tens - 48) * 10 + (ones - 48) }
 {
-    (date[i] - 48) * 10 + (date[i + 1] - 48)
-}
-
-fn day_at(n: u16) -> Option<Day>
-    ensures { result ≡ as_day n }
-{
-    Day::try_from(n).ok()
+    (tens - b'0') * 10 + (ones - b'0')
 }
 
 // The day of a date YYMMDD.
+#[tactic(auto, unfolding(crate::specs::Dates::day_in))]
 pub fn day_in(date: &[u8]) -> Option<Day>
     ensures { result ≡ day_in date.now }
 {
-    if !is_date(date) {
-        return None;
-    }
-    match day_of(two_at(date, 0), two_at(date, 2), two_at(date, 4)) {
-        Some(n) => day_at(n),
-        None => None,
+    match *date {
+        [y1, y2, m1, m2, d1, d2] if is_digits(date) => {
+            let (yy, mm, dd) = (number(y1, y2), number(m1, m2), number(d1, d2));
+            day_of(yy, mm, dd).and_then(|n| Day::try_from(n).ok())
+        }
+        _ => None,
     }
 }
 
 // The day of MMDD in the year of the value date YYMMDD.
+#[tactic(auto, unfolding(crate::specs::Dates::day_in, crate::specs::Dates::entry_day_of))]
 pub fn entry_day(value_date: &[u8], month_day: &[u8]) -> Option<Day>
     ensures { result ≡ entry_day_of value_date.now month_day.now }
 {
-    if month_day.len() != 4 {
-        return None;
+    match (value_date, month_day) {
+        ([y1, y2, ..], [m1, m2, d1, d2]) => day_in(&[*y1, *y2, *m1, *m2, *d1, *d2]),
+        _ => None,
     }
-    if value_date.len() < 2 {
-        return None;
-    }
-    day_in(&[
-        value_date[0],
-        value_date[1],
-        month_day[0],
-        month_day[1],
-        month_day[2],
-        month_day[3],
-    ])
 }
 
-// The month in which a day lies: no month has more than 31 days, so it is the month n / 31 or one of the next few.
+// The month in which a day lies: the last one that begins on it or before it.
 fn month_of(n: u16) -> usize
     requires { n ≤ 36524 }
     ensures is { result ≡ month_of n }
@@ -114,27 +101,19 @@ fn month_of(n: u16) -> usize
     ensures from { first_of result ≤ n }
     ensures before { n < first_of result + length_of result }
 {
-    for k in n as usize / 31..1199 {
-        if n < first_day(k + 1) {
-            return k;
-        }
-    }
-    1199
+    first_days().partition_point(|first| *first <= n) - 1
 }
 
-fn tens(n: u8) -> u8
-    ensures { result ≡ 48 + n / 10 }
+// The two digits of a number below 100.
+fn two(n: u8) -> [u8; 2]
+    requires { n < 100 }
+    ensures { result ≡ two n }
 {
-    48 + n / 10
-}
-
-fn ones(n: u8) -> u8
-    ensures { result ≡ 48 + n % 10 }
-{
-    48 + n % 10
+    [b'0' + n / 10, b'0' + n % 10]
 }
 
 // The six digits YYMMDD of a day.
+#[tactic(auto, using(crate::proofs::Inverse::back), unfolding(crate::specs::Dates::date_text))]
 pub fn written(day: Day) -> [u8; 6]
     ensures is { result ≡ date_text day.number }
     ensures back { day_in result ≡ Some day }
@@ -144,13 +123,12 @@ pub fn written(day: Day) -> [u8; 6]
     let k = month_of(n);
     let yy = ((1980 + k / 12) % 100) as u8;
     let mm = (k % 12 + 1) as u8;
-    let dd = (n - first_day(k) + 1) as u8;
-    [tens(yy), ones(yy), tens(mm), ones(mm), tens(dd), ones(dd)]
+    let dd = (n - first_days()[k] + 1) as u8;
+    let ([y1, y2], [m1, m2], [d1, d2]) = (two(yy), two(mm), two(dd));
+    [y1, y2, m1, m2, d1, d2]
 }
 
 // The worked figures hold, and each day has one date, each date one day.
-pub fn calendar_stands() -> u8
+pub fn calendar_stands()
     ensures { Stands }
-{
-    0
-}
+{}

@@ -1,5 +1,5 @@
 // The first day of each month from January 1980 to December 2079.
-ghost use Rattle.std.specs.Prelude.{◌≡◌, ◌<◌};
+ghost use Rattle.std.specs.Prelude.{◌≡◌, ◌<◌, ℕ, length, slice_index};
 ghost use Rattle.calendar.specs.Calendar.{first_of};
 
 static FIRST: [u16; 1200] = [
@@ -93,10 +93,10 @@ static FIRST: [u16; 1200] = [
     36464, 36494,
 ];
 
-// The first day of the month k, counted from January 1980.
-pub(crate) fn first_day(k: usize) -> u16
-    requires { k < 1200 }
-    ensures { result ≡ first_of k }
+// The first day of each month, counted from January 1980.
+pub(crate) fn first_days() -> &'static [u16; 1200]
+    ensures months { length result.now ≡ 1200 }
+    ensures each { (k : ℕ) → k < 1200 → slice_index result.now k ≡ first_of k }
 {
-    FIRST[k]
+    &FIRST
 }

@@ -1,25 +1,20 @@
-use Rattle.std.proofs.Common.{◌≡◌, ◌+◌, ◌<◌, ◌≤◌, ap, arith}
-use Rattle.calendar.specs.Calendar.{first_of, length_of}
-use Rattle.calendar.proofs.Steps.{first_suc, first_next, first_end}
-use Rattle.calendar.proofs.Months.{month_is, begin}
+use Rattle.std.proofs.Common.{◌≡◌, ◌-◌, true, false, leb, rules, arith}
+use Rattle.std.specs.List.Sorted.{IsPartitionPoint}
+use Rattle.std.proofs.lemmas.List.Sorted.{IsPartitionPoint-from_clause}
+use Rattle.calendar.proofs.Months.{Firsts, Lies, parted, some_begun, last_begun, month_is}
 use Rattle.calendar.proofs.month_of.Goals as goal
 
-pub loop-k-init : goal.loop-k-init
-loop-k-init c = begin c.args.n
+table : (c : goal.After-partition_point) → Firsts c.first_days.result.now
+table c = record { months = c.first_days.ensures.months; each = c.first_days.ensures.each }
 
-pub returns-then-n-first_day : goal.returns-then-n-first_day
-returns-then-n-first_day c =
-    let b : c.args.n < first_of c.loop-k.k + length_of c.loop-k.k = omega (arith, c.if-n-first_day.true, c.first_day.ensures, first_next c.loop-k.k) in
-    let w : c.loop-k.k < 1200 = omega arith in
-    record { is = month_is c.args.n c.loop-k.k (record { within = w; from = c.loop-k.invariant; before = b }); within = w; from = c.loop-k.invariant; before = b }
+point : (c : goal.After-partition_point) → IsPartitionPoint (λ d. leb d c.args.n ≡ true) (λ d. leb d c.args.n ≡ false) c.first_days.result.now c.partition_point.result
+point c = IsPartitionPoint-from_clause (λ d. leb d c.args.n) _ _ c.partition_point.ensures.partitioned (parted c.args.n _ (table c)) (λ a r q k. search rules)
 
-pub loop-k-preserved : goal.loop-k-preserved
-loop-k-preserved c = omega (arith, c.if-n-first_day.false, c.first_day.ensures)
+pub overflow_sub-result : goal.overflow_sub-result
+overflow_sub-result c = some_begun c.args.n _ _ (table c) (point c)
+
+lies : (c : goal.After-partition_point) → Lies c.args.n (c.partition_point.result - 1)
+lies c = let s = some_begun c.args.n _ _ (table c) (point c) in last_begun c.args.n _ _ _ c.requires (table c) c.partition_point.ensures.bound (point c) (omega arith)
 
 pub returns : goal.returns
-returns c =
-    let s : c.args.n ≤ 36524 = c.requires in
-    let e : c.loop-k.k ≡ 1199 = omega (arith, c.loop-k.auto.k-end (omega arith)) in
-    let f : first_of 1199 ≤ c.args.n = omega (arith, c.loop-k.invariant, ap first_of e) in
-    let b : c.args.n < first_of 1199 + 31 = omega (arith, s, first_end, first_suc 1199) in
-    record { is = month_is c.args.n 1199 (record { within = omega arith; from = f; before = b }); within = omega arith; from = f; before = b }
+returns c = let l = lies c in record { is = month_is c.args.n _ l; within = l.within; from = l.from; before = l.before }
