@@ -2,6 +2,5 @@ pub mod Powers
 pub mod Parts
 pub mod Values
 pub mod Readings
-pub mod Marks
 pub mod Numbers
 pub mod Begun

@@ -1,15 +1,15 @@
 -- Numbers of so many digits, and amounts in minor units, are read exactly where a text writes one.
-use Rattle.std.proofs.Common.{◌≡◌, ℕ, cond, eqb, leb, List, [], ◌∷◌, length, get_or, pos, neg_ℤ, Some, None, Option, sym, refl, ap, ◌∙◌, subst, inl, inr, arith}
-use Rattle.std.proofs.lemmas.Bool.{and_parts, and_from, cases_Bool, cond-true, cond-false, le-leb, leb-true, eqb-true, eqb-false, ne_eqb}
+use Rattle.std.proofs.Common.{◌≡◌, ℕ, ◌≤◌, eqb, leb, List, [], ◌∷◌, length, get_or, pos, neg_ℤ, Some, None, Option, sym, refl, ap, ◌∙◌, inl, inr, arith}
+use Rattle.std.proofs.lemmas.Bool.{and_parts, and_from, cases_Bool, cond-true, le-leb, leb-true, eqb-true}
 use Rattle.domain.specs.declared.amount.Amount.{Amount}
 use Rattle.domain.specs.Makers.{as_amount}
 use Rattle.domain.proofs.Same.{as_amount_lem}
 use Rattle.fields.specs.Runs.{is_digit, all_digits, is_numeral, numeral_of, worth}
 use Rattle.fields.specs.Units.{minus_of, plus_of, units_of}
 use Rattle.fields.specs.Written.{Writes, ReadsNumber, Units, ReadsUnits}
+use Rattle.std.proofs.lemmas.Bool.Decides.{nat_tests}
 use Rattle.std.proofs.lemmas.Option.{cond_some, none-some}
 use Rattle.fields.proofs.Readings.{amount_minor}
-use Rattle.fields.proofs.Marks.{units_minus, units_plus}
 use Rattle.fields.proofs.Values.{worth_places}
 
 -- numbers
@@ -37,46 +37,44 @@ reads_number k text r e = by_number k text r (sym e)
 -- amounts in minor units
 no_minus : (text : List ℕ) (n : ℕ) → Writes 14 text n → get_or text 0 0 ≡ 45 → ⊥
 no_minus [] n w e = omega (arith, w.some)
-no_minus (b ∷ bs) n w e =
-    let d = and_parts (is_digit b) (all_digits bs) w.each in
-    omega (arith, e, leb-true 48 b (and_parts (leb 48 b) (leb b 57) d.0).0)
+no_minus (b ∷ bs) n w e = let d = and_parts (is_digit b) (all_digits bs) w.each in grind (arith, nat_tests, d.0)
 
 plus_units : (text : List ℕ) (a : Amount) (o : Option ℕ) → numeral_of 14 text ≡ o → plus_of o ≡ Some a → Units text a
-plus_units text a None e f = absurd (let z : ◌≡◌ {A = ℕ} 0 1 = cc in omega arith)
+plus_units text a None e f = absurd (none-some a f)
 plus_units text a (Some n) e f = record { digits = text; size = n; number = writes 14 text n e; sign = inl (refl, amount_minor (pos n) a f) }
 
 minus_units : (digits : List ℕ) (a : Amount) (o : Option ℕ) → numeral_of 14 digits ≡ o → minus_of o ≡ Some a → Units (45 ∷ digits) a
-minus_units digits a None e f = absurd (let z : ◌≡◌ {A = ℕ} 0 1 = cc in omega arith)
-minus_units digits a (Some n) e f = elim (cases_Bool (eqb n 0)) [
-  | inl t ↦ absurd (let g = sym (ap (λ b. cond b None (as_amount (neg_ℤ (pos n)))) t) ∙ f in let z : ◌≡◌ {A = ℕ} 0 1 = cc in omega arith)
-  | inr z ↦
-      let g = sym (ap (λ b. cond b None (as_amount (neg_ℤ (pos n)))) z) ∙ f in
-      let m = eqb-false n 0 z in
-      record { digits = digits; size = n; number = writes 14 digits n e; sign = inr (refl, omega (arith, m), amount_minor (neg_ℤ (pos n)) a g) }
-]
+minus_units digits a None e f = absurd (none-some a f)
+minus_units digits a (Some n) e f =
+    let m : 1 ≤ n = grind (arith, nat_tests, f) in
+    let g : as_amount (neg_ℤ (pos n)) ≡ Some a = grind (arith, nat_tests, f) in
+    record { digits = digits; size = n; number = writes 14 digits n e; sign = inr (refl, m, amount_minor (neg_ℤ (pos n)) a g) }
 
 units_of_lem : (text : List ℕ) (a : Amount) → units_of text ≡ Some a → Units text a
-units_of_lem [] a e = plus_units [] a (numeral_of 14 []) refl (sym (units_plus [] (λ z. omega (arith, z))) ∙ e)
+unfolding units_of
+units_of_lem [] a e = plus_units [] a (numeral_of 14 []) refl e
 units_of_lem (b ∷ bs) a e = elim (cases_Bool (eqb b 45)) [
-  | inl t ↦
-      let q = eqb-true b 45 t in
-      subst (λ (x : ℕ). Units (x ∷ bs) a) (sym q) (minus_units bs a (numeral_of 14 bs) refl (sym (units_minus (b ∷ bs) q) ∙ e))
-  | inr f ↦ plus_units (b ∷ bs) a (numeral_of 14 (b ∷ bs)) refl (sym (units_plus (b ∷ bs) (eqb-false b 45 f)) ∙ e)
+  | inl t ↦ rw (eqb-true b 45 t) (minus_units bs a (numeral_of 14 bs) refl (rw t at e))
+  | inr f ↦ plus_units (b ∷ bs) a (numeral_of 14 (b ∷ bs)) refl (rw f at e)
 ]
 
 of_units : (text : List ℕ) (a : Amount) → Units text a → units_of text ≡ Some a
+unfolding units_of
 of_units text a u = elim u.sign [
   | inl s ↦
-      ap units_of s.0 ∙ units_plus u.digits (no_minus u.digits u.size u.number) ∙ ap plus_of (numeral_of_lem 14 u.digits u.size u.number)
-      ∙ ap as_amount (sym s.1) ∙ as_amount_lem a
+      let n = numeral_of_lem 14 u.digits u.size u.number in
+      let m = no_minus u.digits u.size u.number in
+      let k = as_amount_lem a in
+      grind (arith, nat_tests)
   | inr s ↦
-      ap units_of s.0 ∙ units_minus (45 ∷ u.digits) refl ∙ ap minus_of (numeral_of_lem 14 u.digits u.size u.number)
-      ∙ cond-false (eqb u.size 0) None (as_amount (neg_ℤ (pos u.size))) (ne_eqb _ _ (λ z. omega (arith, z, s.1))) ∙ ap as_amount (sym s.2) ∙ as_amount_lem a
+      let n = numeral_of_lem 14 u.digits u.size u.number in
+      let k = as_amount_lem a in
+      grind (arith, nat_tests)
 ]
 
 by_units : (text : List ℕ) (o : Option Amount) → units_of text ≡ o → ReadsUnits text o
 by_units text (Some a) e = units_of_lem text a e
-by_units text None e = λ a u. let s = of_units text a u in let z : ◌≡◌ {A = ℕ} 0 1 = cc in omega arith
+by_units text None e = λ a u. none-some a (sym e ∙ of_units text a u)
 
 pub reads_units : (text : List ℕ) (r : Option Amount) → r ≡ units_of text → ReadsUnits text r
 reads_units text r e = by_units text r (sym e)

@@ -33,6 +33,7 @@ fn worth(ds: &[u8]) -> u64
     ensures is { result ≡ worth_of ds.now }
     ensures small { result < 10 ^ length ds.now }
 {
+    // A loop and no fold, whose closure would know neither that each byte is a digit nor that the number so far is small.
     let mut w: u64 = 0;
     for d in ds {
         w = w * 10 + (*d - b'0') as u64;
@@ -44,7 +45,7 @@ fn worth(ds: &[u8]) -> u64
 fn is_numeral(bytes: &[u8], k: usize) -> bool
     ensures { result ≡ is_numeral k bytes.now }
 {
-    1 <= bytes.len() && bytes.len() <= k && is_digits(bytes)
+    (1..=k).contains(&bytes.len()) && is_digits(bytes)
 }
 
 // The number that 1 to k digits write.
