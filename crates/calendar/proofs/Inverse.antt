@@ -1,7 +1,8 @@
 -- A day's date names that day, and a date that names a day is that day's date.
 use Rattle.std.proofs.Common.{◌≡◌, ℕ, ◌+◌, ◌-◌, ◌/◌, ◌%◌, ◌<◌, ◌≤◌, Bool, true, false, T, eqb, leb, List, [], ◌∷◌, ◌++◌, length, get_or, take, Some, None, sym, refl, ap, ◌∙◌, inl, inr, arith, leb→le}
-use Rattle.std.proofs.lemmas.Bool.{and_parts, and_from, le-leb, leb-true, eqb-true, cond-true, cond-false, cases_Bool, eq-eqb}
+use Rattle.std.proofs.lemmas.Bool.{and_parts, eqb-true, cond-true, cases_Bool, eq-eqb}
 use Rattle.std.proofs.lemmas.Bool.Decides.{nat_tests}
+use Rattle.std.proofs.lemmas.Option.{none-some, cond_some, option_and_then_some}
 use Rattle.domain.specs.declared.day.Day.{Day}
 use Rattle.domain.specs.Makers.{as_day, provided}
 use Rattle.domain.proofs.Same.{as_day_lem}
@@ -21,17 +22,10 @@ pub record Named (yy mm dd : ℕ) : Type 0 where
   pub last : dd ≤ days_in (year_of yy) mm
 
 pub named : (yy mm dd : ℕ) → is_day yy mm dd ≡ true → Named yy mm dd
-named yy mm dd e =
-    let p = and_parts (leb yy 99) _ e in
-    let q = and_parts (leb 1 mm) _ p.1 in
-    let r = and_parts (leb mm 12) _ q.1 in
-    let s = and_parts (leb 1 dd) _ r.1 in
-    record { year = leb-true _ _ p.0; low = leb-true _ _ q.0; high = leb-true _ _ r.0; first = leb-true _ _ s.0; last = leb-true _ _ s.1 }
+named yy mm dd e = record { year = grind (arith, nat_tests); low = grind (arith, nat_tests); high = grind (arith, nat_tests); first = grind (arith, nat_tests); last = grind (arith, nat_tests) }
 
 is_named : (yy mm dd : ℕ) → Named yy mm dd → is_day yy mm dd ≡ true
-is_named yy mm dd h =
-    and_from (leb yy 99) _ (le-leb _ _ h.year) (and_from (leb 1 mm) _ (le-leb _ _ h.low) (and_from (leb mm 12) _ (le-leb _ _ h.high)
-    (and_from (leb 1 dd) _ (le-leb _ _ h.first) (le-leb _ _ h.last))))
+is_named yy mm dd h = grind (arith, nat_tests)
 
 -- two-digit years and years
 year_at : (q : ℕ) → q < 100 → year_of ((1980 + q) % 100) ≡ 1980 + q
@@ -122,22 +116,12 @@ date_named yy mm dd h =
     ∙ ap (λ (v : ℕ). two yy ++ (two v ++ two (n - first_of k + 1))) r
     ∙ ap (λ (v : ℕ). two yy ++ (two mm ++ two v)) c
 
-pub no_date : (date : List ℕ) → is_date date ≡ false → None ≡ day_in date
-unfolding day_in
-no_date date f = sym (cond-false (is_date date) (numbered (day_of (two_at date 0) (two_at date 2) (two_at date 4))) None f)
-
-pub a_date : (date : List ℕ) → is_date date ≡ true → day_in date ≡ numbered (day_of (two_at date 0) (two_at date 2) (two_at date 4))
-unfolding day_in
-a_date date t = cond-true (is_date date) (numbered (day_of (two_at date 0) (two_at date 2) (two_at date 4))) None t
-
 from_named : (yy mm dd : ℕ) (d : Day) → numbered (day_of yy mm dd) ≡ Some d → date_text d.number ≡ two yy ++ (two mm ++ two dd)
-from_named yy mm dd d e = elim (cases_Bool (is_day yy mm dd)) [
-  | inl t ↦
-      let n = first_of (month_in yy mm) + (dd - 1) in
-      let s : as_day n ≡ Some d = sym (ap numbered (cond-true (is_day yy mm dd) (Some n) None t)) ∙ e in
-      ap date_text (day_number_lem n d s) ∙ date_named yy mm dd (named yy mm dd t)
-  | inr f ↦ absurd (let s = sym (ap numbered (cond-false (is_day yy mm dd) (Some (first_of (month_in yy mm) + (dd - 1))) None f)) ∙ e in let z : ◌≡◌ {A = ℕ} 0 1 = cc in omega arith)
-]
+from_named yy mm dd d e =
+    let n = first_of (month_in yy mm) + (dd - 1) in
+    option_and_then_some as_day (day_of yy mm dd) d e (λ m g h.
+    let c = cond_some (is_day yy mm dd) n m g in
+    ap date_text (day_number_lem m d h ∙ sym c.1) ∙ date_named yy mm dd (named yy mm dd c.0))
 
 from_date : (date : List ℕ) (d : Day) → is_date date ≡ true → numbered (day_of (two_at date 0) (two_at date 2) (two_at date 4)) ≡ Some d → date_text d.number ≡ date
 from_date date d t e =
@@ -151,9 +135,10 @@ from_date date d t e =
     ∙ six date l
 
 pub forth : (date : List ℕ) (d : Day) → day_in date ≡ Some d → date_text d.number ≡ date
+unfolding day_in
 forth date d e = elim (cases_Bool (is_date date)) [
-  | inl t ↦ from_date date d t (sym (a_date date t) ∙ e)
-  | inr f ↦ absurd (let u = no_date date f in let z : ◌≡◌ {A = ℕ} 0 1 = cc in omega arith)
+  | inl t ↦ from_date date d t (rw t at e)
+  | inr f ↦ absurd (none-some d (rw f at e))
 ]
 
 -- MMDD in the year of a value date

@@ -1,6 +1,7 @@
 -- The month in which a day lies.
 use Rattle.std.proofs.Common.{◌≡◌, ℕ, zero, suc, ◌+◌, ◌<◌, ◌≤◌, leb, sym, ap, ◌∙◌, inl, inr, arith, List, length, get_or, true, false, lit<}
-use Rattle.std.proofs.lemmas.Bool.{cases_lt, cond-true, cond-false, cond_both, le-leb, lt-leb, leb-true, leb-false}
+use Rattle.std.proofs.lemmas.Bool.Decides.{nat_tests}
+use Rattle.std.proofs.lemmas.Bool.{cases_Bool, cases_lt, cond-true, cond-false, le-leb, lt-leb, leb-true, leb-false}
 use Rattle.std.specs.List.Sorted.{IsPartitionedBy, IsPartitionPoint}
 use Rattle.std.proofs.lemmas.List.{get_or_default}
 use Rattle.calendar.specs.Calendar.{first_of, length_of, month_by, month_of}
@@ -14,15 +15,15 @@ pub record Lies (n k : ℕ) : Type 0 where
 
 by_within : (m n : ℕ) → month_by m n ≤ m
 by_within zero n = omega arith
-by_within (suc m) n = cond_both (leb (first_of (suc m)) n) (suc m) (month_by m n) (λ k. k ≤ suc m) (λ t. omega arith) (λ f. omega (arith, by_within m n))
+by_within (suc m) n = grind (arith, nat_tests, by_within m n)
 
 by_from : (m n : ℕ) → first_of (month_by m n) ≤ n
 by_from zero n = omega (arith, first_most 0)
-by_from (suc m) n = cond_both (leb (first_of (suc m)) n) (suc m) (month_by m n) (λ k. first_of k ≤ n) (λ t. leb-true _ _ t) (λ f. by_from m n)
+by_from (suc m) n = let h = by_from m n in elim (cases_Bool (leb (first_of (suc m)) n)) [ inl t ↦ rw t (leb-true _ _ t) | inr f ↦ rw f h ]
 
 by_before : (m n : ℕ) → n < first_of (suc m) → n < first_of (suc (month_by m n))
 by_before zero n h = h
-by_before (suc m) n h = cond_both (leb (first_of (suc m)) n) (suc m) (month_by m n) (λ k. n < first_of (suc k)) (λ t. h) (λ f. by_before m n (leb-false _ _ f))
+by_before (suc m) n h = elim (cases_Bool (leb (first_of (suc m)) n)) [ inl t ↦ rw t h | inr f ↦ rw f (by_before m n (leb-false _ _ f)) ]
 
 -- each day lies in its month
 pub lies : (n : ℕ) → n ≤ 36524 → Lies n (month_of n)

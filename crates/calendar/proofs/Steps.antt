@@ -1,5 +1,5 @@
 -- The table of first days, once over all of it, and how first days grow.
-use Rattle.std.proofs.Common.{◌≡◌, ℕ, zero, suc, ◌+◌, ◌*◌, ◌<◌, ◌≤◌, List, [], ◌∷◌, get_or, sym, refl, ap, ◌∙◌, inl, inr, le_of_suc-le-suc, not-suc-le-zero, add-zero, add-suc, suc-add, zero-add, add-one, arith}
+use Rattle.std.proofs.Common.{◌≡◌, ℕ, zero, suc, ◌+◌, ◌*◌, ◌<◌, ◌≤◌, List, [], ◌∷◌, get_or, sym, refl, ap, ◌∙◌, inl, inr, le_of_suc-le-suc, not-suc-le-zero, add-zero, add-suc, suc-add, zero-add, arith}
 use Rattle.std.proofs.lemmas.Bool.{cases_lt}
 use Rattle.std.proofs.lemmas.Bool.Decides.{nat_tests}
 use Rattle.calendar.specs.Calendar.{first_of, length_of}
@@ -45,6 +45,3 @@ first_grows a (suc b) h = elim (cases_lt a (suc b)) [
   | inl l ↦ omega (arith, first_grows a b (omega arith), first_suc b)
   | inr g ↦ let e : a ≡ suc b = omega arith in omega (arith, ap first_of e)
 ]
-
-pub first_next : (k : ℕ) → first_of (k + 1) ≡ first_of k + length_of k
-first_next k = ap first_of (add-one k) ∙ first_suc k
