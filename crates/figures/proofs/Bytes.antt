@@ -1,10 +1,11 @@
 -- The bytes of a number, high byte first, are those that were packed into it.
-use Rattle.std.proofs.Common.{◌≡◌, ℕ, zero, suc, ◌+◌, ◌*◌, ◌/◌, ◌%◌, ◌<◌, true, eqb, leb, List, [], ◌∷◌, ◌++◌, length, take, sym, refl, ap, ◌∙◌, add-suc, suc-add, zero-add, arith}
+use Rattle.std.proofs.Common.{◌≡◌, ℕ, zero, suc, ◌+◌, ◌*◌, ◌/◌, ◌%◌, ◌<◌, true, false, eqb, List, [], ◌∷◌, ◌++◌, length, take, sym, refl, ap, ◌∙◌, add-suc, suc-add, zero-add, arith}
 use native.Mathlib.Nat.{div-div-eq-div-mul}
 use Rattle.std.proofs.lemmas.List.{append_assoc, append-nil}
 use Rattle.std.proofs.lemmas.Nat.{div-mul-add, mod-mul-add}
 use Rattle.std.specs.List.{AllByRecursion as All}
-use Rattle.std.proofs.lemmas.Bool.{and_parts, leb-true, cond-false, ne_eqb}
+use Rattle.std.proofs.lemmas.Bool.Decides.{nat_tests}
+use Rattle.std.proofs.lemmas.Bool.{and_parts}
 use Rattle.domain.specs.References.{plain, is_plain, packed}
 use Rattle.domain.specs.Keys.{unpacked, until_zero}
 
@@ -20,14 +21,7 @@ padded (suc k) [] = 0 ∷ padded k []
 padded (suc k) (b ∷ bs) = b ∷ padded k bs
 
 unpacked_bytes : (n : ℕ) → bytes 8 n ≡ unpacked n
-unpacked_bytes n =
-    let d2 : n / 256 / 256 ≡ n / 65536 = div-div-eq-div-mul n 256 256 in
-    let d3 : n / 256 / 256 / 256 ≡ n / 16777216 = ap (λ (m : ℕ). m / 256) d2 ∙ div-div-eq-div-mul n 65536 256 in
-    let d4 : n / 256 / 256 / 256 / 256 ≡ n / 4294967296 = ap (λ (m : ℕ). m / 256) d3 ∙ div-div-eq-div-mul n 16777216 256 in
-    let d5 : n / 256 / 256 / 256 / 256 / 256 ≡ n / 1099511627776 = ap (λ (m : ℕ). m / 256) d4 ∙ div-div-eq-div-mul n 4294967296 256 in
-    let d6 : n / 256 / 256 / 256 / 256 / 256 / 256 ≡ n / 281474976710656 = ap (λ (m : ℕ). m / 256) d5 ∙ div-div-eq-div-mul n 1099511627776 256 in
-    let d7 : n / 256 / 256 / 256 / 256 / 256 / 256 / 256 ≡ n / 72057594037927936 = ap (λ (m : ℕ). m / 256) d6 ∙ div-div-eq-div-mul n 281474976710656 256 in
-    cc
+unpacked_bytes n = simp div-div-eq-div-mul
 
 -- one byte behind a number
 behind : (j a b : ℕ) → b < 256 → bytes (suc j) (a * 256 + b) ≡ bytes j a ++ (b ∷ [])
@@ -58,30 +52,20 @@ unpacked_packed bs h = sym (unpacked_bytes (packed 8 0 bs)) ∙ packed_bytes 0 8
 -- bytes of a reference are neither zero nor large
 pub plain_low : (bs : List ℕ) → plain bs ≡ true → Low bs
 plain_low [] e = tt
-plain_low (b ∷ bs) e =
-    let p = and_parts (is_plain b) (plain bs) e in
-    let q = and_parts (leb 32 b) (leb b 126) p.0 in
-    (omega (arith, leb-true b 126 q.1), plain_low bs p.1)
+plain_low (b ∷ bs) e = let p = and_parts (is_plain b) (plain bs) e in (grind (arith, nat_tests, p.0), plain_low bs p.1)
 
-plain_some : (b : ℕ) (bs : List ℕ) → plain (b ∷ bs) ≡ true → (b ≡ 0 → ⊥) × (plain bs ≡ true)
-plain_some b bs e =
-    let p = and_parts (is_plain b) (plain bs) e in
-    let q = and_parts (leb 32 b) (leb b 126) p.0 in
-    (λ z. omega (arith, leb-true 32 b q.0), p.1)
+not_zero : (b : ℕ) (bs : List ℕ) → plain (b ∷ bs) ≡ true → eqb b 0 ≡ false
+not_zero b bs e = let p = and_parts (is_plain b) (plain bs) e in grind (arith, nat_tests, p.0)
 
 -- k bytes of a reference, and what follows them, up to the first zero byte
 pub until_padded : (k : ℕ) (bs rest : List ℕ) → plain bs ≡ true → (length bs < k → ⊥) → until_zero (padded k bs ++ rest) ≡ take k bs ++ until_zero rest
 until_padded zero bs rest p h = refl
 until_padded (suc k) [] rest p h = absurd (h (omega arith))
 until_padded (suc k) (b ∷ bs) rest p h =
-    let q = plain_some b bs p in
-    cond-false (eqb b 0) [] (b ∷ until_zero (padded k bs ++ rest)) (ne_eqb b 0 q.0)
-    ∙ ap (λ (x : List ℕ). b ∷ x) (until_padded k bs rest q.1 (λ l. h (omega arith)))
+    rw (not_zero b bs p) (ap (λ (x : List ℕ). b ∷ x) (until_padded k bs rest (and_parts (is_plain b) (plain bs) p).1 (λ l. h (omega arith))))
 
 pub until_short : (k : ℕ) (bs rest : List ℕ) → plain bs ≡ true → length bs < k → until_zero (padded k bs ++ rest) ≡ bs
 until_short zero bs rest p h = absurd (omega arith)
 until_short (suc k) [] rest p h = refl
 until_short (suc k) (b ∷ bs) rest p h =
-    let q = plain_some b bs p in
-    cond-false (eqb b 0) [] (b ∷ until_zero (padded k bs ++ rest)) (ne_eqb b 0 q.0)
-    ∙ ap (λ (x : List ℕ). b ∷ x) (until_short k bs rest q.1 (omega arith))
+    rw (not_zero b bs p) (ap (λ (x : List ℕ). b ∷ x) (until_short k bs rest (and_parts (is_plain b) (plain bs) p).1 (omega arith)))

@@ -1,8 +1,9 @@
 -- Keys and the references that they come from.
-use Rattle.std.proofs.Common.{◌≡◌, ℕ, zero, suc, ◌≤◌, true, false, cond, leb, ◌⊎◌, List, [], ◌∷◌, ◌++◌, length, take, drop, Some, None, sym, refl, ap, ◌∙◌, inl, inr, arith}
+use Rattle.std.proofs.Common.{◌≡◌, ℕ, zero, suc, ◌≤◌, true, false, cond, leb, ◌⊎◌, List, [], ◌∷◌, ◌++◌, length, take, drop, Some, sym, refl, ap, ◌∙◌, inl, inr, arith}
 use mathlib.Core.Logic.{∥∥₁_map}
 use Rattle.std.proofs.lemmas.List.{take_all, length-drop, append-nil, take-append-drop}
-use Rattle.std.proofs.lemmas.Bool.{and_parts, leb-true, cases_Bool, cases_lt, cond-true, cond-false}
+use Rattle.std.proofs.lemmas.Bool.{and_parts, leb-true, cases_Bool, cases_lt}
+use Rattle.std.proofs.lemmas.Option.{none-some, same_Some}
 use Rattle.domain.specs.declared.key.Key.{Key}
 use Rattle.domain.specs.Keys.{bytes_of, unpacked, until_zero, printed_key}
 use Rattle.domain.specs.Makers.{as_key}
@@ -56,20 +57,11 @@ shown_key k = refl
 
 shown_reference : (r : List ℕ) → is_reference r ≡ true → is_blank r ≡ false → shown (high_of r) (low_of r) ≡ r
 unfolding shown text
-shown_reference r e b =
-    let p = parts r e in
-    ap (λ (n : ℕ). until_zero (unpacked n ++ unpacked (low_of r))) (cond-false (is_blank r) 0 (packed 8 0 r) b)
-    ∙ ap (λ (n : ℕ). until_zero (unpacked (packed 8 0 r) ++ unpacked n)) (cond-false (is_blank r) 0 (packed 8 0 (drop 8 r)) b)
-    ∙ text_back r p.0 p.1
+shown_reference r e b = let p = parts r e in rw b (text_back r p.0 p.1)
 
 shown_blank : (r : List ℕ) → is_blank r ≡ true → shown (high_of r) (low_of r) ≡ []
 unfolding shown
-shown_blank r b =
-    ap (λ (n : ℕ). until_zero (unpacked n ++ unpacked (low_of r))) (cond-true (is_blank r) 0 (packed 8 0 r) b)
-    ∙ ap (λ (n : ℕ). until_zero (unpacked 0 ++ unpacked n)) (cond-true (is_blank r) 0 (packed 8 0 (drop 8 r)) b)
-
-blank_nil : (r : List ℕ) → r ≡ [] → is_blank r ≡ true
-blank_nil r e = ap is_blank e
+shown_blank r b = rw b
 
 same_shown : (r s : List ℕ) → high_of r ≡ high_of s → low_of r ≡ low_of s → shown (high_of r) (low_of r) ≡ shown (high_of s) (low_of s)
 same_shown r s e f = ap (λ (n : ℕ). shown n (low_of r)) e ∙ ap (shown (high_of s)) f
@@ -78,7 +70,7 @@ same_shown r s e f = ap (λ (n : ℕ). shown n (low_of r)) e ∙ ap (shown (high
 shown_as_blank : (r s : List ℕ) → is_reference r ≡ true → is_blank s ≡ true → high_of r ≡ high_of s → low_of r ≡ low_of s → is_blank r ≡ true
 shown_as_blank r s p b e f = elim (cases_Bool (is_blank r)) [
   | inl t ↦ t
-  | inr n ↦ blank_nil r (sym (shown_reference r p n) ∙ same_shown r s e f ∙ shown_blank s b)
+  | inr n ↦ ap is_blank (sym (shown_reference r p n) ∙ same_shown r s e f ∙ shown_blank s b)
 ]
 
 sharing : (r s : List ℕ) → is_reference r ≡ true → is_reference s ≡ true → high_of r ≡ high_of s → low_of r ≡ low_of s → (r ≡ s) ⊎ ((is_blank r ≡ true) × (is_blank s ≡ true))
@@ -92,10 +84,7 @@ sharing r s p q e f = elim (cases_Bool (is_blank s)) [
 
 shared : (r s : List ℕ) → (r ≡ s) ⊎ ((is_blank r ≡ true) × (is_blank s ≡ true)) → (high_of r ≡ high_of s) × (low_of r ≡ low_of s)
 shared r s (inl e) = (ap high_of e, ap low_of e)
-shared r s (inr b) = (
-  cond-true (is_blank r) 0 (packed 8 0 r) b.0 ∙ sym (cond-true (is_blank s) 0 (packed 8 0 s) b.1),
-  cond-true (is_blank r) 0 (packed 8 0 (drop 8 r)) b.0 ∙ sym (cond-true (is_blank s) 0 (packed 8 0 (drop 8 s)) b.1),
-)
+shared r s (inr b) = (rw (b.0, b.1), rw (b.0, b.1))
 
 -- what is made of a reference has its numbers
 pub record Keyed (r : List ℕ) (k : Key) : Type 0 where
@@ -109,22 +98,16 @@ made r t = record { high = high_of r; low = low_of r; real = ∣ (r, t, refl, re
 keyed : (r : List ℕ) (k : Key) → as_key r ≡ Some k → Keyed r k
 keyed r k e = elim (cases_Bool (is_reference r)) [
   | inl t ↦
-      let m : as_key r ≡ Some (made r t) = as_key_lem (made r t) r t refl refl in
-      let s : k ≡ made r t = cc in
-      record { reference = t; high = ap (λ (x : Key). x.high) s; low = ap (λ (x : Key). x.low) s }
-  | inr f ↦
-      let n : as_key r ≡ None = no_key r f in
-      absurd (let z : ◌≡◌ {A = ℕ} 0 1 = cc in omega arith)
+      let s = same_Some (made r t) k (sym (as_key_lem (made r t) r t refl refl) ∙ e) in
+      record { reference = t; high = ap (λ (x : Key). x.high) (sym s); low = ap (λ (x : Key). x.low) (sym s) }
+  | inr f ↦ absurd (none-some k (sym (no_key r f) ∙ e))
 ]
 
 printing : (r : List ℕ) (k : Key) → as_key r ≡ Some k → printed_key k ≡ cond (is_blank r) [] r
 printing r k e =
     let m = keyed r k e in
     let s = shown_key k ∙ ap (λ (n : ℕ). shown n k.low) m.high ∙ ap (shown (high_of r)) m.low in
-    elim (cases_Bool (is_blank r)) [
-      | inl b ↦ s ∙ shown_blank r b ∙ sym (cond-true (is_blank r) [] r b)
-      | inr n ↦ s ∙ shown_reference r m.reference n ∙ sym (cond-false (is_blank r) [] r n)
-    ]
+    elim (cases_Bool (is_blank r)) [ inl b ↦ rw b (s ∙ shown_blank r b) | inr n ↦ rw n (s ∙ shown_reference r m.reference n) ]
 
 pub keys_stand : KeysStand
 keys_stand =
