@@ -1,5 +1,6 @@
 -- How a :61: is cut: it is a value date, perhaps an entry date, a mark, perhaps a capital, an amount, a type and a reference.
-use Rattle.std.specs.Prelude.{ℕ, ◌+◌, Bool, true, false, cond, ◌&&◌, ◌||◌, List, [], ◌∷◌, take, drop, Some, None, codes, Option, nat_le, slice_index}
+use Rattle.std.specs.Prelude.{ℕ, ◌+◌, Bool, cond, ◌&&◌, ◌||◌, List, [], ◌∷◌, take, drop, Some, None, codes, Option, nat_le, slice_index, is_some}
+use Rattle.std.specs.Option.{option_map}
 use Rattle.domain.specs.declared.key.Key.{Key}
 use Rattle.domain.specs.Currencies.{is_capital}
 use Rattle.domain.specs.Makers.{as_key}
@@ -7,18 +8,19 @@ use Rattle.fields.specs.Runs.{is_digit, run_length}
 use Rattle.mt940_cuts.specs.declared.mark.Mark.{Mark}
 use Rattle.mt940_cuts.specs.declared.cutting.Parts.{Parts}
 use Rattle.mt940_cuts.specs.Marks.{mark_of}
-use Rattle.mt940_cuts.specs.Slices.{starts_with, is_sized, is_date}
+use Rattle.mt940_cuts.specs.Slices.{starts_with, is_sized, is_date, digits_at}
 
--- whether an entry date of four digits stands behind the value date of six: it does if a digit follows
-unfoldable pub dates_of : List ℕ → Option Bool
-dates_of body =
-    cond (is_date 6 (take 6 body))
-    (cond (is_digit (slice_index body 6)) (cond (is_date 4 (take 4 (drop 6 body))) (Some true) None) (Some false))
-    None
+-- the entry date of four digits behind the value date of six, if a digit follows that; none where the dates have not their digits
+unfoldable pub dates_of : List ℕ → Option (Option (List ℕ))
+dates_of body = cond (is_date 6 (take 6 body)) (cond (is_digit (slice_index body 6)) (option_map Some (digits_at 4 (drop 6 body))) (Some None)) None
 
--- how many bytes a funds code has: a capital counts as one if a digit or a comma follows it
-unfoldable pub funds_of : List ℕ → ℕ
-funds_of bytes = cond (is_capital (slice_index bytes 0) && nat_le 1 (run_length (drop 1 bytes))) 1 0
+-- a funds code: a capital is one if a digit or a comma follows it
+unfoldable pub has_funds : List ℕ → Bool
+has_funds bytes = is_capital (slice_index bytes 0) && nat_le 1 (run_length (drop 1 bytes))
+
+-- how many bytes a funds code has
+abbrev pub funds_of : List ℕ → ℕ
+funds_of bytes = cond (has_funds bytes) 1 0
 
 -- a capital or a digit
 abbrev pub is_code : ℕ → Bool
@@ -50,22 +52,22 @@ unfoldable pub details_of : List ℕ → Option Key
 details_of bytes = cond (is_type bytes) (key_in (drop 4 bytes)) None
 
 -- where the mark begins
-abbrev pub mark_at : Bool → ℕ
-mark_at dated = cond dated 10 6
+abbrev pub mark_at : Option (List ℕ) → ℕ
+mark_at entry_date = cond (is_some entry_date) 10 6
 
 -- where the amount begins whose mark begins at `at` and has n bytes
 abbrev pub run_at : List ℕ → ℕ → ℕ → ℕ
 run_at body at n = at + n + funds_of (drop (at + n) body)
 
 -- the parts of a :61: whose amount begins at `run`
-abbrev pub parts_from : List ℕ → Bool → Mark → ℕ → Option Parts
-parts_from body dated mark run =
-    elim (details_of (drop (run + run_length (drop run body)) body)) [ None ↦ None | Some k ↦ Some (record { dated = dated; mark = mark; run = run; key = k }) ]
+abbrev pub parts_from : List ℕ → Option (List ℕ) → Mark → ℕ → Option Parts
+parts_from body entry_date mark run =
+    elim (details_of (drop (run + run_length (drop run body)) body)) [ None ↦ None | Some k ↦ Some (record { entry_date = entry_date; mark = mark; run = run; key = k }) ]
 
 -- the parts of a :61: whose mark begins at `at`
-abbrev pub parts_at : List ℕ → Bool → ℕ → Option Parts
-parts_at body dated at = elim (mark_of (drop at body)) [ None ↦ None | Some p ↦ parts_from body dated p.0 (run_at body at p.1) ]
+abbrev pub parts_at : List ℕ → Option (List ℕ) → ℕ → Option Parts
+parts_at body entry_date at = elim (mark_of (drop at body)) [ None ↦ None | Some p ↦ parts_from body entry_date p.0 (run_at body at p.1) ]
 
 -- the parts of a :61:, or none where it has not its form
 unfoldable pub parts_of : List ℕ → Option Parts
-parts_of body = elim (dates_of body) [ None ↦ None | Some dated ↦ parts_at body dated (mark_at dated) ]
+parts_of body = elim (dates_of body) [ None ↦ None | Some entry_date ↦ parts_at body entry_date (mark_at entry_date) ]

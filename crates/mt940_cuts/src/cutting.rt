@@ -1,50 +1,42 @@
 // How a :61: is cut into its parts.
-ghost use Rattle.std.specs.Prelude.{◌≡◌, ◌<◌, ◌≤◌, length, IfSome};
-ghost use Rattle.mt940_cuts.specs.Cuts.{dates_of, funds_of, is_code as is_code_byte, is_class, is_type, slashes_from, key_of, key_in, details_of, mark_at, parts_of};
+ghost use Rattle.std.specs.Prelude.{◌≡◌, ◌+◌, ◌<◌, ◌≤◌, length, IfSome};
+ghost use Rattle.mt940_cuts.specs.Cuts.{dates_of, has_funds, is_code as is_code_byte, is_type, slashes_from, key_of, key_in, details_of, mark_at, parts_of};
 
 use crate::mark::{Mark, mark_of};
-use crate::slices::{behind, byte_at, front, is_date, is_sized, starts};
+use crate::slices::{behind, digits, is_sized};
 use domain::account::is_capital;
 use domain::key::Key;
 use fields::{is_digit, run_length};
 
-// What a :61: that has its form is cut into: whether it has an entry date, its mark, where its amount begins, and the
+// What a :61: that has its form is cut into: its entry date, if it has one, its mark, where its amount begins, and the
 // key of its reference.
-#[derive(Clone, Copy)]
+#[derive(Clone, Copy, PartialEq, Eq)]
 pub struct Parts {
-    pub dated: bool,
+    pub entry_date: Option<[u8; 4]>,
     pub mark: Mark,
     pub run: usize,
     pub key: Key,
 }
 
-// Whether an entry date stands behind the value date, or none where the dates have not their digits.
-fn dates(body: &[u8]) -> Option<bool>
+// The entry date, if a digit stands behind the value date; or none where the dates have not their digits.
+#[tactic(auto, unfolding(crate::specs::Cuts::dates_of, crate::specs::Slices::digits_at))]
+fn dates(body: &[u8]) -> Option<Option<[u8; 4]>>
     ensures { result ≡ dates_of body.now }
 {
-    if !is_date(front(body, 6), 6) {
-        return None;
-    }
-    if !is_digit(byte_at(body, 6)) {
-        return Some(false);
-    }
-    if is_date(front(behind(body, 6), 4), 4) {
-        Some(true)
+    digits::<6>(body)?;
+    if body.get(6).is_some_and(|b| is_digit(*b)) {
+        digits(behind(body, 6)).map(Some)
     } else {
-        None
+        Some(None)
     }
 }
 
-// How many bytes of funds code stand at the front: a capital, if a digit or a comma follows it.
-fn funds(bytes: &[u8]) -> usize
-    ensures is { result ≡ funds_of bytes.now }
-    ensures small { result ≤ 1 }
+// Whether a funds code stands at the front: a capital, if a digit or a comma follows it.
+#[tactic(auto, unfolding(crate::specs::Cuts::has_funds))]
+fn has_funds(bytes: &[u8]) -> bool
+    ensures { result ≡ has_funds bytes.now }
 {
-    if is_capital(byte_at(bytes, 0)) && run_length(behind(bytes, 1)) >= 1 {
-        1
-    } else {
-        0
-    }
+    matches!(bytes, [code, rest @ ..] if is_capital(*code) && run_length(rest) >= 1)
 }
 
 fn is_code(b: u8) -> bool
@@ -53,98 +45,71 @@ fn is_code(b: u8) -> bool
     is_capital(b) || is_digit(b)
 }
 
-fn has_class(bytes: &[u8]) -> bool
-    ensures { result ≡ is_class bytes.now }
-{
-    starts(bytes, b"S") || starts(bytes, b"N") || starts(bytes, b"F")
-}
-
-// Whether a type stands at the front: one of S, N, F, and three capitals or digits.
-fn has_type(bytes: &[u8]) -> bool
-    ensures { result ≡ is_type bytes.now }
-{
-    has_class(bytes)
-        && is_code(byte_at(bytes, 1))
-        && is_code(byte_at(bytes, 2))
-        && is_code(byte_at(bytes, 3))
-}
-
 // Where the first two slashes in a row stand.
 fn slashes(bytes: &[u8]) -> Option<usize>
     ensures is { result ≡ slashes_from 0 bytes.now }
-    ensures within { IfSome result (λ i. i < length bytes.now) }
+    ensures within { IfSome result (λ i. i + 1 < length bytes.now) }
 {
-    for i in 0..bytes.len() {
-        if starts(behind(bytes, i), b"//") {
-            return Some(i);
-        }
-    }
-    None
+    bytes.windows(2).position(|pair| pair == b"//".as_slice())
 }
 
 // The key of a reference of 1 to 16 bytes.
+#[tactic(auto, unfolding(crate::specs::Cuts::key_of))]
 fn key_of(reference: &[u8]) -> Option<Key>
     ensures { result ≡ key_of reference.now }
 {
     if !is_sized(reference, 16) {
         return None;
     }
-    match Key::try_from(reference) {
-        Ok(key) => Some(key),
-        Err(_) => None,
-    }
+    Key::try_from(reference).ok()
 }
 
 // The key of a reference that runs up to two slashes, with 1 to 16 unread bytes behind them, or to the end.
+#[tactic(auto, unfolding(crate::specs::Cuts::key_in))]
 fn key_in(bytes: &[u8]) -> Option<Key>
     ensures { result ≡ key_in bytes.now }
 {
     let Some(i) = slashes(bytes) else {
         return key_of(bytes);
     };
-    if is_sized(behind(bytes, i + 2), 16) {
-        key_of(front(bytes, i))
-    } else {
-        None
+    if !is_sized(&bytes[i + 2..], 16) {
+        return None;
     }
+    key_of(&bytes[..i])
 }
 
-// The key of the reference behind a type.
+// The key of the reference behind a type, which is one of S, N, F, and three capitals or digits.
+#[tactic(auto, unfolding(crate::specs::Cuts::details_of, crate::specs::Cuts::is_type, crate::specs::Cuts::is_class, crate::specs::Slices::starts_with))]
 fn details(bytes: &[u8]) -> Option<Key>
     ensures { result ≡ details_of bytes.now }
 {
-    if has_type(bytes) {
-        key_in(behind(bytes, 4))
-    } else {
-        None
+    match bytes {
+        [b'S' | b'N' | b'F', a, b, c, reference @ ..]
+            if is_code(*a) && is_code(*b) && is_code(*c) => { key_in(reference) }
+        _ => None,
     }
 }
 
 // Where the mark begins.
-fn mark_at(dated: bool) -> usize
-    ensures is { result ≡ mark_at dated }
+fn mark_at(entry_date: Option<[u8; 4]>) -> usize
+    ensures is { result ≡ mark_at entry_date }
     ensures small { result ≤ 10 }
 {
-    if dated { 10 } else { 6 }
+    if entry_date.is_some() { 10 } else { 6 }
 }
 
 // The parts of a :61:, or none where it has not its form.
+#[tactic(auto, unfolding(crate::specs::Cuts::parts_of))]
 pub fn cut(body: &[u8]) -> Option<Parts>
     ensures { result ≡ parts_of body.now }
 {
-    let Some(dated) = dates(body) else {
-        return None;
-    };
-    let at = mark_at(dated);
-    let Some((mark, n)) = mark_of(behind(body, at)) else {
-        return None;
-    };
-    let run = at + n + funds(behind(body, at + n));
-    let Some(key) = details(behind(body, run + run_length(behind(body, run)))) else {
-        return None;
-    };
+    let entry_date = dates(body)?;
+    let at = mark_at(entry_date);
+    let (mark, n) = mark_of(behind(body, at))?;
+    let run = at + n + usize::from(has_funds(behind(body, at + n)));
+    let key = details(behind(body, run + run_length(behind(body, run))))?;
     Some(Parts {
-        dated,
+        entry_date,
         mark,
         run,
         key,

@@ -1,6 +1,6 @@
 // Parts of a run of bytes, which may be shorter than asked for.
-ghost use Rattle.std.specs.Prelude.{◌≡◌, take, drop, slice_index};
-ghost use Rattle.mt940_cuts.specs.Slices.{starts_with, is_sized, is_date};
+ghost use Rattle.std.specs.Prelude.{◌≡◌, take, drop};
+ghost use Rattle.mt940_cuts.specs.Slices.{digits_at, is_sized};
 
 use fields::is_digits;
 
@@ -8,48 +8,29 @@ use fields::is_digits;
 pub fn front(bytes: &[u8], n: usize) -> &[u8]
     ensures { result.now ≡ take n bytes.now }
 {
-    if n <= bytes.len() {
-        &bytes[0..n]
-    } else {
-        bytes
-    }
+    bytes.get(..n).unwrap_or(bytes)
 }
 
 // What stands behind the first n bytes.
 pub fn behind(bytes: &[u8], n: usize) -> &[u8]
     ensures { result.now ≡ drop n bytes.now }
 {
-    if n <= bytes.len() {
-        &bytes[n..]
-    } else {
-        &bytes[bytes.len()..]
-    }
-}
-
-// The byte at an offset, or 0 past the end.
-pub fn byte_at(bytes: &[u8], at: usize) -> u8
-    ensures { result ≡ slice_index bytes.now at }
-{
-    if at < bytes.len() { bytes[at] } else { 0 }
-}
-
-// Whether a line begins with these bytes.
-pub fn starts(line: &[u8], head: &[u8]) -> bool
-    ensures { result ≡ starts_with line.now head.now }
-{
-    front(line, head.len()) == head
+    bytes.get(n..).unwrap_or_default()
 }
 
 // Whether there are 1 to `most` bytes.
+#[tactic(auto, unfolding(crate::specs::Slices::is_sized))]
 pub fn is_sized(bytes: &[u8], most: usize) -> bool
     ensures { result ≡ is_sized most bytes.now }
 {
-    1 <= bytes.len() && bytes.len() <= most
+    (1..=most).contains(&bytes.len())
 }
 
-// Whether these are n digits, as a date has them.
-pub fn is_date(bytes: &[u8], n: usize) -> bool
-    ensures { result ≡ is_date n bytes.now }
+// The first N bytes where they are digits, as a date has them.
+#[tactic(auto, unfolding(crate::specs::Slices::digits_at, crate::specs::Slices::is_date))]
+pub fn digits<const N: usize>(bytes: &[u8]) -> Option<[u8; N]>
+    ensures { result ≡ digits_at N bytes.now }
 {
-    bytes.len() == n && is_digits(bytes)
+    let date = *bytes.first_chunk::<N>()?;
+    is_digits(&date).then_some(date)
 }

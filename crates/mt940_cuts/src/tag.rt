@@ -1,10 +1,9 @@
-ghost use Rattle.std.specs.Prelude.{◌≡◌};
-ghost use Rattle.mt940_cuts.specs.Tags.{tag_of, plain_tag, width_of, is_entry_line, is_continuing};
-
-use crate::slices::starts;
+ghost use Rattle.std.specs.Prelude.{◌≡◌, drop, IfSome};
+ghost use Rattle.std.specs.Option.{option_map};
+ghost use Rattle.mt940_cuts.specs.Tags.{tag_of, plain_tag, width_of, is_continuing};
 
 // What a line is, by how it begins.
-#[derive(Clone, Copy)]
+#[derive(Clone, Copy, PartialEq, Eq, Debug)]
 pub enum Tag {
     Reference,
     Related,
@@ -21,70 +20,47 @@ pub enum Tag {
 }
 
 // A line with no tag of its own: the hyphen that ends a page, or a further line. A colon or a hyphen begins none.
-fn untagged(line: &[u8]) -> Option<Tag>
-    ensures { result ≡ plain_tag line.now }
+#[tactic(auto, unfolding(crate::specs::Tags::plain_tag, crate::specs::Slices::starts_with))]
+fn untagged(line: &[u8]) -> Option<(Tag, &[u8])>
+    ensures is { option_map (λ p. p.0) result ≡ plain_tag line.now }
+    ensures behind { IfSome result (λ p. p.1.now ≡ drop (width_of p.0) line.now) }
 {
-    if line == b"-".as_slice() {
-        return Some(Tag::Hyphen);
+    match line {
+        [b'-'] => Some((Tag::Hyphen, &line[1..])),
+        [b':' | b'-', ..] => None,
+        _ => Some((Tag::Further, line)),
     }
-    if starts(line, b":") || starts(line, b"-") {
-        return None;
-    }
-    Some(Tag::Further)
 }
 
-// What a line is, or none where its tag is unknown.
-pub fn tag_of(line: &[u8]) -> Option<Tag>
-    ensures { result ≡ tag_of line.now }
+// What a line is and what stands behind its tag, or none where its tag is unknown. A line with no tag of its own is the
+// hyphen that ends a page, or a further line; a colon or a hyphen begins none.
+#[tactic(auto, unfolding(crate::specs::Tags::tag_of, crate::specs::Tags::plain_tag, crate::specs::Slices::starts_with))]
+pub fn tagged(line: &[u8]) -> Option<(Tag, &[u8])>
+    ensures is { option_map (λ p. p.0) result ≡ tag_of line.now }
+    ensures behind { IfSome result (λ p. p.1.now ≡ drop (width_of p.0) line.now) }
 {
-    if starts(line, b":20:") {
-        Some(Tag::Reference)
-    } else if starts(line, b":21:") {
-        Some(Tag::Related)
-    } else if starts(line, b":25:") {
-        Some(Tag::Account)
-    } else if starts(line, b":28C:") {
-        Some(Tag::Number)
-    } else if starts(line, b":60F:") {
-        Some(Tag::OpeningFirst)
-    } else if starts(line, b":60M:") {
-        Some(Tag::OpeningLater)
-    } else if starts(line, b":61:") {
-        Some(Tag::Entry)
-    } else if starts(line, b":62F:") {
-        Some(Tag::ClosingLast)
-    } else if starts(line, b":62M:") {
-        Some(Tag::ClosingMiddle)
-    } else if starts(line, b":86:") {
-        Some(Tag::Note)
+    if let Some(body) = line.strip_prefix(b":20:") {
+        Some((Tag::Reference, body))
+    } else if let Some(body) = line.strip_prefix(b":21:") {
+        Some((Tag::Related, body))
+    } else if let Some(body) = line.strip_prefix(b":25:") {
+        Some((Tag::Account, body))
+    } else if let Some(body) = line.strip_prefix(b":28C:") {
+        Some((Tag::Number, body))
+    } else if let Some(body) = line.strip_prefix(b":60F:") {
+        Some((Tag::OpeningFirst, body))
+    } else if let Some(body) = line.strip_prefix(b":60M:") {
+        Some((Tag::OpeningLater, body))
+    } else if let Some(body) = line.strip_prefix(b":61:") {
+        Some((Tag::Entry, body))
+    } else if let Some(body) = line.strip_prefix(b":62F:") {
+        Some((Tag::ClosingLast, body))
+    } else if let Some(body) = line.strip_prefix(b":62M:") {
+        Some((Tag::ClosingMiddle, body))
+    } else if let Some(body) = line.strip_prefix(b":86:") {
+        Some((Tag::Note, body))
     } else {
         untagged(line)
-    }
-}
-
-// How many bytes the tag itself has.
-pub fn width(tag: Tag) -> usize
-    ensures { result ≡ width_of tag }
-{
-    match tag {
-        Tag::Reference | Tag::Related | Tag::Account | Tag::Entry | Tag::Note => 4,
-        Tag::Number
-        | Tag::OpeningFirst
-        | Tag::OpeningLater
-        | Tag::ClosingLast
-        | Tag::ClosingMiddle => 5,
-        Tag::Hyphen => 1,
-        Tag::Further => 0,
-    }
-}
-
-// Whether a line is a :61:.
-pub fn is_entry(line: &[u8]) -> bool
-    ensures { result ≡ is_entry_line line.now }
-{
-    match tag_of(line) {
-        Some(Tag::Entry) => true,
-        _ => false,
     }
 }
 
@@ -92,9 +68,5 @@ pub fn is_entry(line: &[u8]) -> bool
 pub fn continues(line: &[u8]) -> bool
     ensures { result ≡ is_continuing line.now }
 {
-    match tag_of(line) {
-        Some(Tag::Note) => true,
-        Some(Tag::Further) => true,
-        _ => false,
-    }
+    matches!(tagged(line), Some((Tag::Note | Tag::Further, _)))
 }
