@@ -1,5 +1,5 @@
 -- What a :61: says of its entry.
-use Rattle.std.specs.Prelude.{ℕ, Bool, cond, List, take, drop, Some, None, Ok, Err, Option, Result}
+use Rattle.std.specs.Prelude.{ℕ, cond, List, take, drop, Some, None, Ok, Err, Option, Result}
 use Rattle.std.specs.Result.{result_ok}
 use Rattle.domain.specs.declared.day.Day.{Day}
 use Rattle.domain.specs.declared.digits.Digits.{Digits}
@@ -9,19 +9,20 @@ use Rattle.calendar.specs.Dates.{day_in, entry_day_of}
 use Rattle.mt940_cuts.specs.declared.cutting.Parts.{Parts}
 use Rattle.mt940_fields.specs.declared.movement.Movement.{Movement}
 use Rattle.mt940_cuts.specs.Cuts.{parts_of}
-use Rattle.mt940_fields.specs.Signs.{kind_of, amount_in}
+use Rattle.mt940_cuts.specs.Marks.{kind_of}
+use Rattle.mt940_fields.specs.Signs.{amount_in}
 use Rattle.mt940_cuts.specs.Tags.{is_entry_line}
 
 -- the entry day: that of the entry date, or the value day where there is none
-abbrev pub entered_on : Bool → Day → List ℕ → Option Day
-entered_on dated value_day body = cond dated (entry_day_of (take 6 body) (take 4 (drop 6 body))) (Some value_day)
+abbrev pub entered_on : Option (List ℕ) → Day → List ℕ → Option Day
+entered_on entry_date value_day body = elim entry_date [ None ↦ Some value_day | Some month_day ↦ entry_day_of (take 6 body) month_day ]
 
 -- what a :61: that has its form says of its entry: its value day, its entry day and its amount, judged in this order
 unfoldable pub movement_of : Digits → Parts → List ℕ → Result Movement Refusal
 movement_of digits p body =
     elim (day_in (take 6 body)) [
       | None ↦ Err NoSuchDay
-      | Some v ↦ elim (entered_on p.dated v body) [
+      | Some v ↦ elim (entered_on p.entry_date v body) [
         | None ↦ Err NoSuchDay
         | Some e ↦ elim (amount_in digits p.mark (drop p.run body)) [
           | None ↦ Err BadAmount

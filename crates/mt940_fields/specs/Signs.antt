@@ -2,19 +2,10 @@
 use Rattle.std.specs.Prelude.{ℕ, List, neg_ℤ, Some, None, Option}
 use Rattle.domain.specs.declared.amount.Amount.{Amount}
 use Rattle.domain.specs.declared.digits.Digits.{Digits}
-use Rattle.domain.specs.declared.entry.Kind.{Kind}
-use Rattle.domain.specs.declared.entry.Kind.TheVariants.{Ordinary, Reversal}
 use Rattle.domain.specs.Makers.{as_amount}
 use Rattle.fields.specs.Commas.{comma_amount}
 use Rattle.mt940_cuts.specs.declared.mark.Mark.{Mark}
 use Rattle.mt940_cuts.specs.declared.mark.Mark.TheVariants.{Credit, Debit, CreditReversed, DebitReversed}
-
--- R marks a reversal
-abbrev pub kind_of : Mark → Kind
-kind_of Credit = Ordinary
-kind_of Debit = Ordinary
-kind_of CreditReversed = Reversal
-kind_of DebitReversed = Reversal
 
 -- C is plus and D minus; a reversal of either is the opposite
 unfoldable pub signed_as : Mark → Amount → Option Amount

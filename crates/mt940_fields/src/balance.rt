@@ -8,36 +8,33 @@ use domain::amount::Amount;
 use domain::currency::Currency;
 use domain::day::Day;
 use domain::digits::Digits;
+use domain::entry::Kind;
 use domain::refusal::Refusal;
 use fields::run_length;
-use mt940_cuts::mark::Mark;
-use mt940_cuts::slices::{behind, front, is_date, starts};
+use mt940_cuts::mark::{Mark, mark_of};
+use mt940_cuts::slices::{behind, digits, front};
 
-#[derive(Clone, Copy)]
+#[derive(Clone, Copy, PartialEq, Eq)]
 pub struct Balance {
     pub day: Day,
     pub amount: Amount,
 }
 
+// The mark at the front, which reverses nothing.
+#[tactic(auto, unfolding(mt940_cuts::specs::Marks::mark_of))]
 fn sign(body: &[u8]) -> Option<Mark>
     ensures { result ≡ sign_of body.now }
 {
-    if starts(body, b"C") {
-        Some(Mark::Credit)
-    } else if starts(body, b"D") {
-        Some(Mark::Debit)
-    } else {
-        None
-    }
+    let (mark, _) = mark_of(body)?;
+    (Kind::from(mark) == Kind::Ordinary).then_some(mark)
 }
 
 // The mark of a balance that has its form: a mark, a date, up to three bytes of currency, and a run of digits and commas to the end.
+#[tactic(auto, unfolding(crate::specs::Balances::balance_mark, mt940_cuts::specs::Slices::digits_at))]
 pub fn balance_mark(body: &[u8]) -> Option<Mark>
     ensures { result ≡ balance_mark body.now }
 {
-    if !is_date(front(behind(body, 1), 6), 6) {
-        return None;
-    }
+    digits::<6>(behind(body, 1))?;
     let rest = behind(body, 10);
     if run_length(rest) != rest.len() {
         return None;
@@ -46,6 +43,7 @@ pub fn balance_mark(body: &[u8]) -> Option<Mark>
 }
 
 // A balance that has its form: its day, its amount, and its currency, which must be the account's.
+#[tactic(auto, unfolding(crate::specs::Balances::balance_of))]
 pub fn balance_in(
     body: &[u8],
     mark: Mark,
@@ -54,13 +52,8 @@ pub fn balance_in(
 ) -> Result<Balance, Refusal>
     ensures { result ≡ balance_of digits currency.code mark body.now }
 {
-    let Some(day) = day_in(front(behind(body, 1), 6)) else {
-        return Err(Refusal::NoSuchDay);
-    };
-    let amount = match amount_in(behind(body, 10), mark, digits) {
-        Ok(amount) => amount,
-        Err(why) => return Err(why),
-    };
+    let day = day_in(front(behind(body, 1), 6)).ok_or(Refusal::NoSuchDay)?;
+    let amount = amount_in(behind(body, 10), mark, digits)?;
     let own = currency.code();
     if front(behind(body, 7), 3) != own.as_slice() {
         return Err(Refusal::BadCurrency);

@@ -1,25 +1,16 @@
 // What the marks of balances and entries say of their amounts.
 ghost use Rattle.std.specs.Prelude.{◌≡◌};
 ghost use Rattle.std.specs.Option.{ok_or};
-ghost use Rattle.mt940_fields.specs.Signs.{kind_of, signed_as, amount_in};
+ghost use Rattle.mt940_fields.specs.Signs.{signed_as, amount_in};
 
 use domain::amount::Amount;
 use domain::digits::Digits;
-use domain::entry::Kind;
 use domain::refusal::Refusal;
 use fields::comma_amount;
 use mt940_cuts::mark::Mark;
 
-pub fn kind_of(mark: Mark) -> Kind
-    ensures { result ≡ kind_of mark }
-{
-    match mark {
-        Mark::Credit | Mark::Debit => Kind::Ordinary,
-        Mark::CreditReversed | Mark::DebitReversed => Kind::Reversal,
-    }
-}
-
 // The amount with the sign that its mark gives it.
+#[tactic(auto, unfolding(crate::specs::Signs::signed_as))]
 pub fn signed(mark: Mark, unsigned: Amount) -> Result<Amount, Refusal>
     ensures { result ≡ ok_or (signed_as mark unsigned) Refusal.BadAmount }
 {
@@ -30,11 +21,10 @@ pub fn signed(mark: Mark, unsigned: Amount) -> Result<Amount, Refusal>
 }
 
 // The amount at the front, with its sign.
+#[tactic(auto, unfolding(crate::specs::Signs::amount_in))]
 pub fn amount_in(bytes: &[u8], mark: Mark, digits: Digits) -> Result<Amount, Refusal>
     ensures { result ≡ ok_or (amount_in digits mark bytes.now) Refusal.BadAmount }
 {
-    match comma_amount(bytes, digits) {
-        Ok(read) => signed(mark, read.0),
-        Err(why) => Err(why),
-    }
+    let (unsigned, _) = comma_amount(bytes, digits)?;
+    signed(mark, unsigned)
 }
