@@ -2,7 +2,7 @@
 use Rattle.std.proofs.Common.{◌≡◌, ℕ, ◌+◌, ◌≤◌, true, false, cond, eqb, leb, List, drop, ℤ, ◌+ℤ◌, IfOk, Some, None, Ok, Err, Option, Result, sym, refl, ap, ◌∙◌, subst, arith}
 use Rattle.std.proofs.lemmas.Result.{IfOk-at_ok}
 use Rattle.std.proofs.lemmas.Int.{ints}
-use Rattle.std.proofs.lemmas.Bool.{cond_both, cond-true, both_ways, and_parts, leb-true, leb-false}
+use Rattle.std.proofs.lemmas.Bool.{cond_both, both_ways, and_parts, leb-true, leb-false}
 use Rattle.std.specs.Result.{result_ok}
 use Rattle.domain.specs.declared.refusal.Refusal.{Refusal}
 use Rattle.domain.specs.declared.refusal.Refusal.TheVariants.{Form, BadNumber, Unbalanced, TooMuch}
@@ -74,7 +74,7 @@ unfolding numbered_of next_page
 went_numbered s body =
     made_need (Went s None) _ (numbers_of body) Form
     (λ p _. made_then (Went s None) _ (placed s.stage Number)
-    (λ g e. cond_both (next_page s p.0 p.1) (Ok (paged s g p.0 p.1)) (Err BadNumber) (λ r. IfOk r (Went s None))
+    (λ g e. cond_both (next_page s p.number p.page) (Ok (paged s g p.number p.page)) (Err BadNumber) (λ r. IfOk r (Went s None))
     (λ t. record {
       digits = refl;
       moved = refl;
@@ -83,7 +83,7 @@ went_numbered s body =
         few = k.few;
         low = k.low;
         high = k.high;
-        numbered = number_fits p.0 (and_parts (is_number p.0) _ t).0;
+        numbered = number_fits p.number (and_parts (is_number p.number) _ t).0;
         balanced = λ c. absurd (unclosed s.stage Number g refl refl e c);
       };
     })
@@ -208,8 +208,8 @@ sound_by : (s : State) (o : Option Movement) (r : Result State Refusal) → Soun
 sound_by s o (Ok u) k w = w.sound k
 sound_by s o (Err why) k w = tt
 
-pub step_sound : (s : State) (line : List ℕ) → Sound s → IfOk (step_of s line) Sound
-step_sound s line k = sound_by s (stated_in s.digits line) (step_of s line) k (went_step s line)
+pub field_sound : (s : State) (t : Tag) (body : List ℕ) → Sound s → IfOk (field_of s t body) Sound
+field_sound s t body k = sound_by s (stated_as s t body) (field_of s t body) k (went_field s t body)
 
 -- at the end the last page has closed
 pub last_closed : (g : Stage) → is_last g ≡ true → is_closed g ≡ true
@@ -224,11 +224,3 @@ last_closed (Noted more) e = e
 last_closed (Closed last) e = refl
 last_closed (Remark last more) e = refl
 last_closed Done e = refl
-
--- how the code comes to it
-pub step_is : (s : State) (line : List ℕ) (t : Tag) (body : List ℕ) → is_formed line ≡ true → tag_of line ≡ Some t → body ≡ drop (width_of t) line → field_of s t body ≡ step_of s line
-unfolding step_of
-step_is s line t body f e b =
-    ap (field_of s t) b
-    ∙ sym (ap (λ (o : Option Tag). need o Form (λ t. field_of s t (drop (width_of t) line))) e)
-    ∙ sym (cond-true (is_formed line) (need (tag_of line) Form (λ t. field_of s t (drop (width_of t) line))) (Err Form) f)

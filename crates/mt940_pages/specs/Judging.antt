@@ -79,7 +79,7 @@ unfoldable pub numbered_of : State → List ℕ → Result State Refusal
 numbered_of s body =
     need (numbers_of body) Form (λ p.
     and_then (placed s.stage Number) (λ g.
-    cond (next_page s p.0 p.1) (Ok (paged s g p.0 p.1)) (Err BadNumber)))
+    cond (next_page s p.number p.page) (Ok (paged s g p.number p.page)) (Err BadNumber)))
 
 -- a balance that is permitted where it stands, and the stage that it leads to
 unfoldable pub arrived_of : State → Tag → List ℕ → Result Arrival Refusal

@@ -40,23 +40,24 @@ pub fn follow(stage: Stage, tag: Tag) -> Option<Stage>
     match (stage, tag) {
         (Stage::Start { first }, Tag::Reference) => Some(Stage::Named { first }),
         (Stage::Named { first }, Tag::Related) => Some(Stage::Tied { first }),
-        (Stage::Named { first }, Tag::Account) => Some(Stage::Held { first }),
-        (Stage::Tied { first }, Tag::Account) => Some(Stage::Held { first }),
+        (Stage::Named { first } | Stage::Tied { first }, Tag::Account) => Some(Stage::Held {
+            first,
+        }),
         (Stage::Held { first }, Tag::Number) => Some(Stage::Numbered { first }),
         (Stage::Numbered { first: true }, Tag::OpeningFirst) => Some(Stage::Body),
         (Stage::Numbered { first: false }, Tag::OpeningLater) => Some(Stage::Body),
-        (Stage::Body, Tag::Entry) => Some(Stage::Item { more: 0 }),
-        (Stage::Item { .. }, Tag::Entry) => Some(Stage::Item { more: 0 }),
-        (Stage::Noted { .. }, Tag::Entry) => Some(Stage::Item { more: 0 }),
+        (Stage::Body | Stage::Item { .. } | Stage::Noted { .. }, Tag::Entry) => Some(Stage::Item {
+            more: 0,
+        }),
         (Stage::Item { more }, Tag::Further) if more < 1 => Some(Stage::Item { more: more + 1 }),
         (Stage::Item { .. }, Tag::Note) => Some(Stage::Noted { more: 0 }),
         (Stage::Noted { more }, Tag::Further) if more < 5 => Some(Stage::Noted { more: more + 1 }),
-        (Stage::Body, Tag::ClosingLast) => Some(Stage::Closed { last: true }),
-        (Stage::Item { .. }, Tag::ClosingLast) => Some(Stage::Closed { last: true }),
-        (Stage::Noted { .. }, Tag::ClosingLast) => Some(Stage::Closed { last: true }),
-        (Stage::Body, Tag::ClosingMiddle) => Some(Stage::Closed { last: false }),
-        (Stage::Item { .. }, Tag::ClosingMiddle) => Some(Stage::Closed { last: false }),
-        (Stage::Noted { .. }, Tag::ClosingMiddle) => Some(Stage::Closed { last: false }),
+        (Stage::Body | Stage::Item { .. } | Stage::Noted { .. }, Tag::ClosingLast) => Some(
+            Stage::Closed { last: true },
+        ),
+        (Stage::Body | Stage::Item { .. } | Stage::Noted { .. }, Tag::ClosingMiddle) => Some(
+            Stage::Closed { last: false },
+        ),
         (Stage::Closed { last }, Tag::Note) => Some(Stage::Remark { last, more: 0 }),
         (Stage::Remark { last, more }, Tag::Further) if more < 5 => {
             Some(Stage::Remark {
@@ -64,18 +65,17 @@ pub fn follow(stage: Stage, tag: Tag) -> Option<Stage>
                 more: more + 1,
             })
         }
-        (Stage::Closed { last }, Tag::Hyphen) => Some(after_hyphen(last)),
-        (Stage::Remark { last, .. }, Tag::Hyphen) => Some(after_hyphen(last)),
+        (Stage::Closed { last } | Stage::Remark { last, .. }, Tag::Hyphen) => Some(after_hyphen(
+            last,
+        )),
         _ => None,
     }
 }
 
 // The stage that a line leads to, refused where its tag is not permitted here.
+#[tactic(auto, unfolding(crate::specs::Stages::placed))]
 pub fn place(stage: Stage, tag: Tag) -> Result<Stage, Refusal>
     ensures { result ≡ placed stage tag }
 {
-    match follow(stage, tag) {
-        Some(next) => Ok(next),
-        None => Err(Refusal::Misplaced),
-    }
+    follow(stage, tag).ok_or(Refusal::Misplaced)
 }

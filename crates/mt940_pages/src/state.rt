@@ -1,8 +1,5 @@
 // What has been read of a statement, and what one line more leads to.
-ghost use Rattle.std.specs.Prelude.{◌≡◌, ◌+◌, ◌+ℤ◌, FitsSigned, ◌==◌};
-ghost use Rattle.std.specs.Int.{w64};
-ghost use Rattle.domain.specs.Entries.{same_int};
-ghost use Rattle.domain.specs.Limits.{is_number};
+ghost use Rattle.std.specs.Prelude.{◌≡◌};
 ghost use Rattle.mt940_pages.specs.Judging.{arrived_of, begin as begun, closed_of, entered_of, field_of, is_done, named_of, numbered_of, next_page, opened_first, opened_later, passed_of, repeats, sum_of, step_of};
 ghost use Rattle.mt940_pages.specs.Sizes.{Sound};
 
@@ -13,11 +10,11 @@ use domain::day::Day;
 use domain::digits::Digits;
 use domain::refusal::Refusal;
 use mt940_cuts::cutting::cut;
-use mt940_cuts::slices::{behind, is_sized};
-use mt940_cuts::tag::{Tag, tag_of, width};
+use mt940_cuts::slices::is_sized;
+use mt940_cuts::tag::{Tag, tagged};
 use mt940_fields::balance::{Balance, balance_in, balance_mark};
 use mt940_fields::movement::movement_in;
-use mt940_fields::number::numbers;
+use mt940_fields::number::{PageNumber, numbers};
 use text::{Reading, is_formed};
 
 // How many entries a statement may have.
@@ -60,68 +57,6 @@ pub fn begin(currency: Currency, digits: Digits) -> State
     }
 }
 
-// A line that changes the stage alone.
-fn passed(state: State, tag: Tag) -> Result<State, Refusal>
-    ensures { result ≡ passed_of state tag }
-{
-    match place(state.stage, tag) {
-        Ok(stage) => Ok(State { stage, ..state }),
-        Err(why) => Err(why),
-    }
-}
-
-// :20:, :21: and :25:, of which nothing is kept.
-fn named(state: State, tag: Tag, body: &[u8], most: usize) -> Result<State, Refusal>
-    ensures { result ≡ named_of state tag most body.now }
-{
-    if !is_sized(body, most) {
-        return Err(Refusal::Form);
-    }
-    passed(state, tag)
-}
-
-fn is_number(number: u32) -> bool
-    ensures { result ≡ is_number number }
-{
-    1 <= number && number <= 99_999
-}
-
-// Whether a page comes behind those that have come.
-fn is_next(state: State, page: u32) -> bool
-    ensures { result ≡ (page == state.page + 1) }
-{
-    1 <= page && page - 1 == state.page
-}
-
-// Whether a page follows the pages before: page 1 of a number from 1 to 99,999, or the next page of the same number.
-fn follows_on(state: State, number: u32, page: u32) -> bool
-    ensures { result ≡ next_page state number page }
-{
-    is_number(number) && is_next(state, page) && (page == 1 || number == state.number)
-}
-
-// :28C:.
-fn numbered(state: State, body: &[u8]) -> Result<State, Refusal>
-    ensures { result ≡ numbered_of state body.now }
-{
-    let Some((number, page)) = numbers(body) else {
-        return Err(Refusal::Form);
-    };
-    let stage = match place(state.stage, Tag::Number) {
-        Ok(stage) => stage,
-        Err(why) => return Err(why),
-    };
-    if !follows_on(state, number, page) {
-        return Err(Refusal::BadNumber);
-    }
-    Ok(State {
-        stage,
-        number,
-        page,
-        ..state
-    })
-}
-
 // A balance that is permitted where it stands, and the stage that it leads to.
 #[derive(Clone, Copy)]
 pub struct Arrival {
@@ -129,150 +64,163 @@ pub struct Arrival {
     balance: Balance,
 }
 
-fn arrived(state: State, tag: Tag, body: &[u8]) -> Result<Arrival, Refusal>
-    ensures { result ≡ arrived_of state tag body.now }
-{
-    let Some(mark) = balance_mark(body) else {
-        return Err(Refusal::Form);
-    };
-    let stage = match place(state.stage, tag) {
-        Ok(stage) => stage,
-        Err(why) => return Err(why),
-    };
-    match balance_in(body, mark, state.digits, state.currency) {
-        Ok(balance) => Ok(Arrival { stage, balance }),
-        Err(why) => Err(why),
+impl State {
+    // A line that changes the stage alone.
+    #[tactic(auto, unfolding(crate::specs::Judging::passed_of))]
+    fn passed(self, tag: Tag) -> Result<State, Refusal>
+        ensures { result ≡ passed_of self tag }
+    {
+        let stage = place(self.stage, tag)?;
+        Ok(State { stage, ..self })
     }
-}
 
-// :60F: opens the statement.
-fn opened_first(state: State, body: &[u8]) -> Result<State, Refusal>
-    ensures { result ≡ opened_first state body.now }
-{
-    match arrived(state, Tag::OpeningFirst, body) {
-        Ok(a) => Ok(State {
-            stage: a.stage,
-            opening_day: a.balance.day,
-            opening: a.balance.amount,
-            ..state
-        }),
-        Err(why) => Err(why),
+    // :20:, :21: and :25:, of which nothing is kept.
+    #[tactic(auto, unfolding(crate::specs::Judging::named_of))]
+    fn named(self, tag: Tag, body: &[u8], most: usize) -> Result<State, Refusal>
+        ensures { result ≡ named_of self tag most body.now }
+    {
+        if !is_sized(body, most) {
+            return Err(Refusal::Form);
+        }
+        self.passed(tag)
     }
-}
 
-// Whether a balance has the day and the amount of the last closing.
-fn is_repeat(state: State, balance: Balance) -> bool
-    ensures { result ≡ repeats state balance }
-{
-    balance.day == state.closing_day
-        && balance.amount.minor() == state.closing.minor()
-}
-
-// :60M: repeats the :62M: before.
-fn opened_later(state: State, body: &[u8]) -> Result<State, Refusal>
-    ensures { result ≡ opened_later state body.now }
-{
-    let a = match arrived(state, Tag::OpeningLater, body) {
-        Ok(a) => a,
-        Err(why) => return Err(why),
-    };
-    if !is_repeat(state, a.balance) {
-        return Err(Refusal::Unbalanced);
+    // Whether a page follows the pages before: page 1 of a number from 1 to 99,999, or the next page of the same number.
+    #[tactic(auto, unfolding(crate::specs::Judging::next_page))]
+    fn follows_on(self, next: PageNumber) -> bool
+        ensures { result ≡ next_page self next.number next.page }
+    {
+        (1..=99_999).contains(&next.number)
+            && self.page.checked_add(1) == Some(next.page)
+            && (next.page == 1 || next.number == self.number)
     }
-    Ok(State {
-        stage: a.stage,
-        ..state
-    })
-}
 
-// The opening plus the entries so far.
-fn total(state: State) -> i64
-    requires { Sound state }
-    ensures { result ≡ sum_of state }
-{
-    state.opening.minor() + state.moved
-}
-
-fn is_sum(state: State, amount: Amount) -> bool
-    requires { Sound state }
-    ensures { result ≡ same_int amount.minor (sum_of state) }
-{
-    amount.minor() == total(state)
-}
-
-// :62F: and :62M: close a page.
-fn closed(state: State, tag: Tag, body: &[u8]) -> Result<State, Refusal>
-    requires { Sound state }
-    ensures { result ≡ closed_of state tag body.now }
-{
-    let a = match arrived(state, tag, body) {
-        Ok(a) => a,
-        Err(why) => return Err(why),
-    };
-    if !is_sum(state, a.balance.amount) {
-        return Err(Refusal::Unbalanced);
+    // :28C:.
+    #[tactic(auto, unfolding(crate::specs::Judging::numbered_of))]
+    fn numbered(self, body: &[u8]) -> Result<State, Refusal>
+        ensures { result ≡ numbered_of self body.now }
+    {
+        let next = numbers(body).ok_or(Refusal::Form)?;
+        let stage = place(self.stage, Tag::Number)?;
+        if !self.follows_on(next) {
+            return Err(Refusal::BadNumber);
+        }
+        Ok(State {
+            stage,
+            number: next.number,
+            page: next.page,
+            ..self
+        })
     }
-    Ok(State {
-        stage: a.stage,
-        closing_day: a.balance.day,
-        closing: a.balance.amount,
-        ..state
-    })
-}
 
-// A sum with an amount added.
-fn plus(sum: i64, amount: Amount) -> i64
-    requires { FitsSigned w64 (sum +ℤ amount.minor) }
-    ensures { result ≡ sum +ℤ amount.minor }
-{
-    sum + amount.minor()
-}
-
-// :61: adds its entry.
-fn entered(state: State, body: &[u8]) -> Result<State, Refusal>
-    requires { Sound state }
-    ensures { result ≡ entered_of state body.now }
-{
-    let Some(parts) = cut(body) else {
-        return Err(Refusal::Form);
-    };
-    let stage = match place(state.stage, Tag::Entry) {
-        Ok(stage) => stage,
-        Err(why) => return Err(why),
-    };
-    let m = match movement_in(body, parts, state.digits) {
-        Ok(m) => m,
-        Err(why) => return Err(why),
-    };
-    if state.count >= MOST_ENTRIES {
-        return Err(Refusal::TooMuch);
+    #[tactic(auto, unfolding(crate::specs::Judging::arrived_of))]
+    fn arrived(self, tag: Tag, body: &[u8]) -> Result<Arrival, Refusal>
+        ensures { result ≡ arrived_of self tag body.now }
+    {
+        let mark = balance_mark(body).ok_or(Refusal::Form)?;
+        let stage = place(self.stage, tag)?;
+        let balance = balance_in(body, mark, self.digits, self.currency)?;
+        Ok(Arrival { stage, balance })
     }
-    Ok(State {
-        stage,
-        moved: plus(state.moved, m.amount),
-        count: state.count + 1,
-        ..state
-    })
-}
 
-// What stands behind a tag.
-fn field(state: State, tag: Tag, body: &[u8]) -> Result<State, Refusal>
-    requires { Sound state }
-    ensures { result ≡ field_of state tag body.now }
-{
-    match tag {
-        Tag::Reference => named(state, Tag::Reference, body, 16),
-        Tag::Related => named(state, Tag::Related, body, 16),
-        Tag::Account => named(state, Tag::Account, body, 35),
-        Tag::Number => numbered(state, body),
-        Tag::OpeningFirst => opened_first(state, body),
-        Tag::OpeningLater => opened_later(state, body),
-        Tag::Entry => entered(state, body),
-        Tag::ClosingLast => closed(state, Tag::ClosingLast, body),
-        Tag::ClosingMiddle => closed(state, Tag::ClosingMiddle, body),
-        Tag::Note => passed(state, Tag::Note),
-        Tag::Hyphen => passed(state, Tag::Hyphen),
-        Tag::Further => passed(state, Tag::Further),
+    // :60F: opens the statement.
+    #[tactic(auto, unfolding(crate::specs::Judging::opened_first))]
+    fn opened_first(self, body: &[u8]) -> Result<State, Refusal>
+        ensures { result ≡ opened_first self body.now }
+    {
+        let Arrival { stage, balance } = self.arrived(Tag::OpeningFirst, body)?;
+        Ok(State {
+            stage,
+            opening_day: balance.day,
+            opening: balance.amount,
+            ..self
+        })
+    }
+
+    // Whether a balance has the day and the amount of the last closing.
+    fn is_repeat(self, balance: Balance) -> bool
+        ensures { result ≡ repeats self balance }
+    {
+        balance
+            == Balance {
+                day: self.closing_day,
+                amount: self.closing,
+            }
+    }
+
+    // :60M: repeats the :62M: before.
+    #[tactic(auto, unfolding(crate::specs::Judging::opened_later))]
+    fn opened_later(self, body: &[u8]) -> Result<State, Refusal>
+        ensures { result ≡ opened_later self body.now }
+    {
+        let Arrival { stage, balance } = self.arrived(Tag::OpeningLater, body)?;
+        if !self.is_repeat(balance) {
+            return Err(Refusal::Unbalanced);
+        }
+        Ok(State { stage, ..self })
+    }
+
+    // The opening plus the entries so far.
+    fn total(self) -> i64
+        requires { Sound self }
+        ensures { result ≡ sum_of self }
+    {
+        self.opening.minor() + self.moved
+    }
+
+    // :62F: and :62M: close a page.
+    #[tactic(auto, unfolding(crate::specs::Judging::closed_of))]
+    fn closed(self, tag: Tag, body: &[u8]) -> Result<State, Refusal>
+        requires { Sound self }
+        ensures { result ≡ closed_of self tag body.now }
+    {
+        let Arrival { stage, balance } = self.arrived(tag, body)?;
+        if balance.amount.minor() != self.total() {
+            return Err(Refusal::Unbalanced);
+        }
+        Ok(State {
+            stage,
+            closing_day: balance.day,
+            closing: balance.amount,
+            ..self
+        })
+    }
+
+    // :61: adds its entry.
+    #[tactic(auto, unfolding(crate::specs::Judging::entered_of))]
+    fn entered(self, body: &[u8]) -> Result<State, Refusal>
+        requires { Sound self }
+        ensures { result ≡ entered_of self body.now }
+    {
+        let parts = cut(body).ok_or(Refusal::Form)?;
+        let stage = place(self.stage, Tag::Entry)?;
+        let movement = movement_in(body, parts, self.digits)?;
+        if self.count >= MOST_ENTRIES {
+            return Err(Refusal::TooMuch);
+        }
+        Ok(State {
+            stage,
+            moved: self.moved + movement.amount.minor(),
+            count: self.count + 1,
+            ..self
+        })
+    }
+
+    // What stands behind a tag.
+    fn field(self, tag: Tag, body: &[u8]) -> Result<State, Refusal>
+        requires { Sound self }
+        ensures { result ≡ field_of self tag body.now }
+    {
+        match tag {
+            Tag::Reference | Tag::Related => self.named(tag, body, 16),
+            Tag::Account => self.named(tag, body, 35),
+            Tag::Number => self.numbered(body),
+            Tag::OpeningFirst => self.opened_first(body),
+            Tag::OpeningLater => self.opened_later(body),
+            Tag::Entry => self.entered(body),
+            Tag::ClosingLast | Tag::ClosingMiddle => self.closed(tag, body),
+            Tag::Note | Tag::Hyphen | Tag::Further => self.passed(tag),
+        }
     }
 }
 
@@ -283,14 +231,13 @@ impl Reading for State {
 
     ghost sound = { Sound };
 
+    #[tactic(auto, unfolding(crate::specs::Judging::step_of))]
     fn step(self, line: &[u8]) -> Result<State, Refusal> {
         if !is_formed(line) {
             return Err(Refusal::Form);
         }
-        let Some(tag) = tag_of(line) else {
-            return Err(Refusal::Form);
-        };
-        field(self, tag, behind(line, width(tag)))
+        let (tag, body) = tagged(line).ok_or(Refusal::Form)?;
+        self.field(tag, body)
     }
 
     fn is_complete(&self) -> bool {
