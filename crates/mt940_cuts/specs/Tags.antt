@@ -3,7 +3,9 @@ use Rattle.std.specs.Prelude.{ℕ, Bool, false, cond, ◌||◌, List, Some, None
 use Rattle.domain.specs.References.{same_bytes}
 use Rattle.mt940_cuts.specs.Slices.{starts_with}
 use Rattle.mt940_cuts.specs.declared.tag.Tag.{Tag}
-use Rattle.mt940_cuts.specs.declared.tag.Tag.TheVariants.{Reference, Related, Account, Number, OpeningFirst, OpeningLater, Entry, ClosingLast, ClosingMiddle, Note, Hyphen, Further}
+use Rattle.mt940_cuts.specs.declared.tag.Tag.TheVariants.{Reference, Related, Account, Number, Opening, Entry, Closing, Note, Hyphen, Further}
+use Rattle.mt940_cuts.specs.declared.tag.Page.TheVariants.{First, Later}
+use Rattle.mt940_cuts.specs.declared.tag.End.TheVariants.{Last, Middle}
 
 -- a line with none of the tags: one hyphen, or a further line, which starts with neither colon nor hyphen
 unfoldable pub plain_tag : List ℕ → Option Tag
@@ -15,11 +17,11 @@ tag_of line =
     (cond (starts_with line (codes ":21:")) (Some Related)
     (cond (starts_with line (codes ":25:")) (Some Account)
     (cond (starts_with line (codes ":28C:")) (Some Number)
-    (cond (starts_with line (codes ":60F:")) (Some OpeningFirst)
-    (cond (starts_with line (codes ":60M:")) (Some OpeningLater)
+    (cond (starts_with line (codes ":60F:")) (Some (Opening First))
+    (cond (starts_with line (codes ":60M:")) (Some (Opening Later))
     (cond (starts_with line (codes ":61:")) (Some Entry)
-    (cond (starts_with line (codes ":62F:")) (Some ClosingLast)
-    (cond (starts_with line (codes ":62M:")) (Some ClosingMiddle)
+    (cond (starts_with line (codes ":62F:")) (Some (Closing Last))
+    (cond (starts_with line (codes ":62M:")) (Some (Closing Middle))
     (cond (starts_with line (codes ":86:")) (Some Note)
     (plain_tag line))))))))))
 
@@ -29,11 +31,11 @@ width_of Reference = 4
 width_of Related = 4
 width_of Account = 4
 width_of Number = 5
-width_of OpeningFirst = 5
-width_of OpeningLater = 5
+width_of (Opening First) = 5
+width_of (Opening Later) = 5
 width_of Entry = 4
-width_of ClosingLast = 5
-width_of ClosingMiddle = 5
+width_of (Closing Last) = 5
+width_of (Closing Middle) = 5
 width_of Note = 4
 width_of Hyphen = 1
 width_of Further = 0
@@ -44,11 +46,11 @@ code Reference = 0
 code Related = 1
 code Account = 2
 code Number = 3
-code OpeningFirst = 4
-code OpeningLater = 5
+code (Opening First) = 4
+code (Opening Later) = 5
 code Entry = 6
-code ClosingLast = 7
-code ClosingMiddle = 8
+code (Closing Last) = 7
+code (Closing Middle) = 8
 code Note = 9
 code Hyphen = 10
 code Further = 11

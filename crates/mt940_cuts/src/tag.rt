@@ -2,6 +2,20 @@ ghost use Rattle.std.specs.Prelude.{◌≡◌, drop, IfSome};
 ghost use Rattle.std.specs.Option.{option_map};
 ghost use Rattle.mt940_cuts.specs.Tags.{tag_of, plain_tag, width_of, is_continuing};
 
+// Which page of its statement a :60: opens.
+#[derive(Clone, Copy, PartialEq, Eq, Debug)]
+pub enum Page {
+    First,
+    Later,
+}
+
+// Which page of its statement a :62: closes.
+#[derive(Clone, Copy, PartialEq, Eq, Debug)]
+pub enum End {
+    Last,
+    Middle,
+}
+
 // What a line is, by how it begins.
 #[derive(Clone, Copy, PartialEq, Eq, Debug)]
 pub enum Tag {
@@ -9,11 +23,9 @@ pub enum Tag {
     Related,
     Account,
     Number,
-    OpeningFirst,
-    OpeningLater,
+    Opening(Page),
     Entry,
-    ClosingLast,
-    ClosingMiddle,
+    Closing(End),
     Note,
     Hyphen,
     Further,
@@ -48,15 +60,15 @@ pub fn tagged(line: &[u8]) -> Option<(Tag, &[u8])>
     } else if let Some(body) = line.strip_prefix(b":28C:") {
         Some((Tag::Number, body))
     } else if let Some(body) = line.strip_prefix(b":60F:") {
-        Some((Tag::OpeningFirst, body))
+        Some((Tag::Opening(Page::First), body))
     } else if let Some(body) = line.strip_prefix(b":60M:") {
-        Some((Tag::OpeningLater, body))
+        Some((Tag::Opening(Page::Later), body))
     } else if let Some(body) = line.strip_prefix(b":61:") {
         Some((Tag::Entry, body))
     } else if let Some(body) = line.strip_prefix(b":62F:") {
-        Some((Tag::ClosingLast, body))
+        Some((Tag::Closing(End::Last), body))
     } else if let Some(body) = line.strip_prefix(b":62M:") {
-        Some((Tag::ClosingMiddle, body))
+        Some((Tag::Closing(End::Middle), body))
     } else if let Some(body) = line.strip_prefix(b":86:") {
         Some((Tag::Note, body))
     } else {

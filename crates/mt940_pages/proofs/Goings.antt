@@ -13,7 +13,9 @@ use Rattle.text.specs.Lines.{is_formed}
 use Rattle.mt940_cuts.specs.declared.cutting.Parts.{Parts}
 use Rattle.mt940_fields.specs.declared.movement.Movement.{Movement}
 use Rattle.mt940_cuts.specs.declared.tag.Tag.{Tag}
-use Rattle.mt940_cuts.specs.declared.tag.Tag.TheVariants.{Reference, Related, Account, Number, OpeningFirst, OpeningLater, Entry, ClosingLast, ClosingMiddle, Note, Hyphen, Further}
+use Rattle.mt940_cuts.specs.declared.tag.Tag.TheVariants.{Reference, Related, Account, Number, Opening, Entry, Closing, Note, Hyphen, Further}
+use Rattle.mt940_cuts.specs.declared.tag.Page.TheVariants.{First, Later}
+use Rattle.mt940_cuts.specs.declared.tag.End.TheVariants.{Last, Middle}
 use Rattle.mt940_fields.specs.Balances.{balance_mark, balance_of}
 use Rattle.mt940_cuts.specs.Cuts.{parts_of}
 use Rattle.mt940_fields.specs.Movements.{movement_of, stated_by, stated_in}
@@ -101,23 +103,23 @@ arrived_stage s t body =
 went_opened : (s : State) (body : List ℕ) → IfOk (opened_first s body) (Went s None)
 unfolding opened_first
 went_opened s body =
-    made_then (Went s None) (λ a. Ok (opened s a)) (arrived_of s OpeningFirst body)
+    made_then (Went s None) (λ a. Ok (opened s a)) (arrived_of s (Opening First) body)
     (λ a e.
-    let p : placed s.stage OpeningFirst ≡ Ok a.stage = IfOk-at_ok (λ a. placed s.stage OpeningFirst ≡ Ok a.stage) e (arrived_stage s OpeningFirst body) in
+    let p : placed s.stage (Opening First) ≡ Ok a.stage = IfOk-at_ok (λ a. placed s.stage (Opening First) ≡ Ok a.stage) e (arrived_stage s (Opening First) body) in
     record {
       digits = refl;
       moved = refl;
       count = refl;
-      sound = λ k. record { few = k.few; low = k.low; high = k.high; numbered = k.numbered; balanced = λ c. absurd (unclosed s.stage OpeningFirst a.stage refl refl p c) };
+      sound = λ k. record { few = k.few; low = k.low; high = k.high; numbered = k.numbered; balanced = λ c. absurd (unclosed s.stage (Opening First) a.stage refl refl p c) };
     })
 
 went_repeated : (s : State) (body : List ℕ) → IfOk (opened_later s body) (Went s None)
 unfolding opened_later
 went_repeated s body =
-    made_then (Went s None) _ (arrived_of s OpeningLater body)
+    made_then (Went s None) _ (arrived_of s (Opening Later) body)
     (λ a e.
-    let p : placed s.stage OpeningLater ≡ Ok a.stage = IfOk-at_ok (λ a. placed s.stage OpeningLater ≡ Ok a.stage) e (arrived_stage s OpeningLater body) in
-    cond_both (repeats s a.balance) (Ok (staged s a.stage)) (Err Unbalanced) (λ r. IfOk r (Went s None)) (λ _. pass s OpeningLater a.stage refl p) (λ _. tt))
+    let p : placed s.stage (Opening Later) ≡ Ok a.stage = IfOk-at_ok (λ a. placed s.stage (Opening Later) ≡ Ok a.stage) e (arrived_stage s (Opening Later) body) in
+    cond_both (repeats s a.balance) (Ok (staged s a.stage)) (Err Unbalanced) (λ r. IfOk r (Went s None)) (λ _. pass s (Opening Later) a.stage refl p) (λ _. tt))
 
 went_closed : (s : State) (t : Tag) (body : List ℕ) → IfOk (closed_of s t body) (Went s None)
 unfolding closed_of
@@ -170,11 +172,11 @@ went_field s Reference body = went_named s Reference 16 body refl
 went_field s Related body = went_named s Related 16 body refl
 went_field s Account body = went_named s Account 35 body refl
 went_field s Number body = went_numbered s body
-went_field s OpeningFirst body = went_opened s body
-went_field s OpeningLater body = went_repeated s body
+went_field s (Opening First) body = went_opened s body
+went_field s (Opening Later) body = went_repeated s body
 went_field s Entry body = went_entered s body
-went_field s ClosingLast body = went_closed s ClosingLast body
-went_field s ClosingMiddle body = went_closed s ClosingMiddle body
+went_field s (Closing Last) body = went_closed s (Closing Last) body
+went_field s (Closing Middle) body = went_closed s (Closing Middle) body
 went_field s Note body = went_passed s Note refl
 went_field s Hyphen body = went_passed s Hyphen refl
 went_field s Further body = went_passed s Further refl
@@ -186,11 +188,11 @@ stated_is s line Reference e = cc
 stated_is s line Related e = cc
 stated_is s line Account e = cc
 stated_is s line Number e = cc
-stated_is s line OpeningFirst e = cc
-stated_is s line OpeningLater e = cc
+stated_is s line (Opening First) e = cc
+stated_is s line (Opening Later) e = cc
 stated_is s line Entry e = cc
-stated_is s line ClosingLast e = cc
-stated_is s line ClosingMiddle e = cc
+stated_is s line (Closing Last) e = cc
+stated_is s line (Closing Middle) e = cc
 stated_is s line Note e = cc
 stated_is s line Hyphen e = cc
 stated_is s line Further e = cc
@@ -213,14 +215,14 @@ field_sound s t body k = sound_by s (stated_as s t body) (field_of s t body) k (
 
 -- at the end the last page has closed
 pub last_closed : (g : Stage) → is_last g ≡ true → is_closed g ≡ true
-last_closed (Start first) e = e
-last_closed (Named first) e = e
-last_closed (Tied first) e = e
-last_closed (Held first) e = e
-last_closed (Numbered first) e = e
+last_closed (Start page) e = e
+last_closed (Named page) e = e
+last_closed (Tied page) e = e
+last_closed (Held page) e = e
+last_closed (Numbered page) e = e
 last_closed Body e = e
 last_closed (Item more) e = e
 last_closed (Noted more) e = e
-last_closed (Closed last) e = refl
-last_closed (Remark last more) e = refl
+last_closed (Closed end) e = refl
+last_closed (Remark end more) e = refl
 last_closed Done e = refl

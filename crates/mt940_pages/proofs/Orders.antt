@@ -4,11 +4,13 @@ use Rattle.std.proofs.lemmas.Bool.{cond_both, both_ways, or_left, or_right}
 use Rattle.std.specs.Option.{ok_or}
 use Rattle.domain.specs.declared.refusal.Refusal.TheVariants.{Misplaced}
 use Rattle.mt940_cuts.specs.declared.tag.Tag.{Tag}
-use Rattle.mt940_cuts.specs.declared.tag.Tag.TheVariants.{Reference, Related, Account, Number, Entry, ClosingLast, ClosingMiddle, Note, Hyphen, Further}
+use Rattle.mt940_cuts.specs.declared.tag.Tag.TheVariants.{Reference, Related, Account, Number, Opening, Entry, Closing, Note, Hyphen, Further}
+use Rattle.mt940_cuts.specs.declared.tag.End.TheVariants.{Last, Middle}
+use Rattle.mt940_cuts.specs.declared.tag.End.{End}
 use Rattle.mt940_cuts.specs.Tags.{code}
 use Rattle.mt940_pages.specs.declared.stage.Stage.{Stage}
 use Rattle.mt940_pages.specs.declared.stage.Stage.TheVariants.{Start, Named, Tied, Held, Numbered, Body, Item, Noted, Closed, Remark, Done}
-use Rattle.mt940_pages.specs.Stages.{on, on_further, opening_tag, in_body, ended, placed}
+use Rattle.mt940_pages.specs.Stages.{on, on_further, in_body, ended, placed}
 use Rattle.mt940_pages.specs.Sizes.{is_closed}
 
 abbrev pub is_closing : Tag → Bool
@@ -48,23 +50,23 @@ module _ (g : Stage) (t : Tag) (other : is_closing t ≡ false) where
   body : StaysIn (in_body t)
   body =
       open_on Entry (Item 0) _ refl
-      (cond_both (eqb (code t) (code ClosingLast)) (Some (Closed true)) (on t ClosingMiddle (Closed false) None) StaysIn
+      (cond_both (eqb (code t) (code (Closing Last))) (Some (Closed Last)) (on t (Closing Middle) (Closed Middle) None) StaysIn
       (λ e _. absurd (both_ways (is_closing t) other (or_left _ _ e)))
-      (λ _. cond_both (eqb (code t) (code ClosingMiddle)) (Some (Closed false)) None StaysIn (λ e _. absurd (both_ways (is_closing t) other (or_right (eqb (code t) 7) _ e))) (λ _. tt)))
+      (λ _. cond_both (eqb (code t) (code (Closing Middle))) (Some (Closed Middle)) None StaysIn (λ e _. absurd (both_ways (is_closing t) other (or_right (eqb (code t) 7) _ e))) (λ _. tt)))
 
-  hyphen : (last : Bool) → is_closed g ≡ true → StaysIn (on t Hyphen (ended last) None)
-  hyphen last f = quiet_on Hyphen (ended last) None f (λ e. or_right (eqb (code t) 9) _ (or_left _ _ e)) tt
+  hyphen : (end : End) → is_closed g ≡ true → StaysIn (on t Hyphen (ended end) None)
+  hyphen end f = quiet_on Hyphen (ended end) None f (λ e. or_right (eqb (code t) 9) _ (or_left _ _ e)) tt
 
 pub stays : (g : Stage) (t : Tag) → is_closing t ≡ false → IfOk (placed g t) (Stays g t)
 unfolding placed
-stays (Start first) t n = open_on (Start first) t n Reference (Named first) None refl tt
-stays (Named first) t n = open_on (Named first) t n Related (Tied first) _ refl (open_on (Named first) t n Account (Held first) None refl tt)
-stays (Tied first) t n = open_on (Tied first) t n Account (Held first) None refl tt
-stays (Held first) t n = open_on (Held first) t n Number (Numbered first) None refl tt
-stays (Numbered first) t n = open_on (Numbered first) t n (opening_tag first) Body None refl tt
+stays (Start page) t n = open_on (Start page) t n Reference (Named page) None refl tt
+stays (Named page) t n = open_on (Named page) t n Related (Tied page) _ refl (open_on (Named page) t n Account (Held page) None refl tt)
+stays (Tied page) t n = open_on (Tied page) t n Account (Held page) None refl tt
+stays (Held page) t n = open_on (Held page) t n Number (Numbered page) None refl tt
+stays (Numbered page) t n = open_on (Numbered page) t n (Opening page) Body None refl tt
 stays Body t n = body Body t n
 stays (Item more) t n = open_further (Item more) t n more 1 Item _ (λ _. refl) (open_on (Item more) t n Note (Noted 0) _ refl (body (Item more) t n))
 stays (Noted more) t n = open_further (Noted more) t n more 5 Noted _ (λ _. refl) (body (Noted more) t n)
-stays (Closed last) t n = quiet_on (Closed last) t n Note (Remark last 0) _ refl (λ e. or_left _ _ e) (hyphen (Closed last) t n last refl)
-stays (Remark last more) t n = quiet_further (Remark last more) t n more 5 (Remark last) _ refl (hyphen (Remark last more) t n last refl)
+stays (Closed end) t n = quiet_on (Closed end) t n Note (Remark end 0) _ refl (λ e. or_left _ _ e) (hyphen (Closed end) t n end refl)
+stays (Remark end more) t n = quiet_further (Remark end more) t n more 5 (Remark end) _ refl (hyphen (Remark end more) t n end refl)
 stays Done t n = tt

@@ -11,7 +11,9 @@ use Rattle.text.specs.Lines.{is_formed}
 use Rattle.mt940_fields.specs.declared.balance.Balance.{Balance}
 use Rattle.mt940_fields.specs.declared.movement.Movement.{Movement}
 use Rattle.mt940_cuts.specs.declared.tag.Tag.{Tag}
-use Rattle.mt940_cuts.specs.declared.tag.Tag.TheVariants.{Reference, Related, Account, Number, OpeningFirst, OpeningLater, Entry, ClosingLast, ClosingMiddle, Note, Hyphen, Further}
+use Rattle.mt940_cuts.specs.declared.tag.Tag.TheVariants.{Reference, Related, Account, Number, Opening, Entry, Closing, Note, Hyphen, Further}
+use Rattle.mt940_cuts.specs.declared.tag.Page.TheVariants.{First, Later}
+use Rattle.mt940_cuts.specs.declared.tag.End.TheVariants.{Last, Middle}
 use Rattle.mt940_fields.specs.Balances.{balance_mark, balance_of}
 use Rattle.mt940_cuts.specs.Cuts.{parts_of}
 use Rattle.mt940_fields.specs.Movements.{movement_of}
@@ -26,20 +28,20 @@ use Rattle.mt940_pages.specs.Stages.{placed}
 
 -- before the first line: no page has come
 abbrev pub begin : Currency → Digits → State
-begin own digits = record { currency = own; digits = digits; stage = Start true; number = 1; page = 0; opening_day = day_zero; opening = zero_amount; closing_day = day_zero; closing = zero_amount; moved = pos 0; count = 0 }
+begin own digits = record { currency = own; digits = digits; stage = Start First; number = 1; page = 0; opening_day = day_zero; opening = zero_amount; closing_day = day_zero; closing = zero_amount; moved = pos 0; count = 0 }
 
 -- nothing follows the last page
 abbrev pub is_last : Stage → Bool
-is_last (Start first) = false
-is_last (Named first) = false
-is_last (Tied first) = false
-is_last (Held first) = false
-is_last (Numbered first) = false
+is_last (Start page) = false
+is_last (Named page) = false
+is_last (Tied page) = false
+is_last (Held page) = false
+is_last (Numbered page) = false
 is_last Body = false
 is_last (Item more) = false
 is_last (Noted more) = false
-is_last (Closed last) = false
-is_last (Remark last more) = false
+is_last (Closed end) = false
+is_last (Remark end more) = false
 is_last Done = true
 
 -- the statement has ended
@@ -97,7 +99,7 @@ opened s a = record { currency = s.currency; digits = s.digits; stage = a.stage;
 
 -- :60F: opens the statement
 unfoldable pub opened_first : State → List ℕ → Result State Refusal
-opened_first s body = and_then (arrived_of s OpeningFirst body) (λ a. Ok (opened s a))
+opened_first s body = and_then (arrived_of s (Opening First) body) (λ a. Ok (opened s a))
 
 -- a balance with the day and the amount of the last closing
 abbrev pub repeats : State → Balance → Bool
@@ -105,7 +107,7 @@ repeats s b = b.day.number == s.closing_day.number && same_int b.amount.minor s.
 
 -- :60M: repeats the :62M: before
 unfoldable pub opened_later : State → List ℕ → Result State Refusal
-opened_later s body = and_then (arrived_of s OpeningLater body) (λ a. cond (repeats s a.balance) (Ok (staged s a.stage)) (Err Unbalanced))
+opened_later s body = and_then (arrived_of s (Opening Later) body) (λ a. cond (repeats s a.balance) (Ok (staged s a.stage)) (Err Unbalanced))
 
 abbrev pub closed : State → Arrival → State
 closed s a = record { currency = s.currency; digits = s.digits; stage = a.stage; number = s.number; page = s.page; opening_day = s.opening_day; opening = s.opening; closing_day = a.balance.day; closing = a.balance.amount; moved = s.moved; count = s.count }
@@ -132,11 +134,11 @@ field_of s Reference body = named_of s Reference 16 body
 field_of s Related body = named_of s Related 16 body
 field_of s Account body = named_of s Account 35 body
 field_of s Number body = numbered_of s body
-field_of s OpeningFirst body = opened_first s body
-field_of s OpeningLater body = opened_later s body
+field_of s (Opening First) body = opened_first s body
+field_of s (Opening Later) body = opened_later s body
 field_of s Entry body = entered_of s body
-field_of s ClosingLast body = closed_of s ClosingLast body
-field_of s ClosingMiddle body = closed_of s ClosingMiddle body
+field_of s (Closing Last) body = closed_of s (Closing Last) body
+field_of s (Closing Middle) body = closed_of s (Closing Middle) body
 field_of s Note body = passed_of s Note
 field_of s Hyphen body = passed_of s Hyphen
 field_of s Further body = passed_of s Further

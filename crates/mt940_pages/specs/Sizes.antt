@@ -7,16 +7,16 @@ use Rattle.mt940_pages.specs.Judging.{sum_of}
 
 -- the page has closed
 abbrev pub is_closed : Stage → Bool
-is_closed (Start first) = false
-is_closed (Named first) = false
-is_closed (Tied first) = false
-is_closed (Held first) = false
-is_closed (Numbered first) = false
+is_closed (Start page) = false
+is_closed (Named page) = false
+is_closed (Tied page) = false
+is_closed (Held page) = false
+is_closed (Numbered page) = false
 is_closed Body = false
 is_closed (Item more) = false
 is_closed (Noted more) = false
-is_closed (Closed last) = true
-is_closed (Remark last more) = true
+is_closed (Closed end) = true
+is_closed (Remark end more) = true
 is_closed Done = true
 
 -- sums stay small, the number is one, and once a page has closed its closing is the opening plus the entries

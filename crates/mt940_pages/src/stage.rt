@@ -2,34 +2,32 @@ ghost use Rattle.std.specs.Prelude.{◌≡◌};
 ghost use Rattle.mt940_pages.specs.Stages.{ended, next_stage, placed};
 
 use domain::refusal::Refusal;
-use mt940_cuts::tag::Tag;
+use mt940_cuts::tag::{End, Page, Tag};
 
 // What a page has brought so far: its reference, related reference, account, number, opening, entries and closing.
-// `first` is whether it is the statement's first page, `last` whether it has closed as the last one, `more` how many
-// further lines have come.
-#[derive(Clone, Copy)]
+// `page` is which page of the statement it is, `end` which one it has closed as, `more` how many further lines have come.
+#[derive(Clone, Copy, PartialEq, Eq, Debug)]
 pub enum Stage {
-    Start { first: bool },
-    Named { first: bool },
-    Tied { first: bool },
-    Held { first: bool },
-    Numbered { first: bool },
+    Start { page: Page },
+    Named { page: Page },
+    Tied { page: Page },
+    Held { page: Page },
+    Numbered { page: Page },
     Body,
     Item { more: u8 },
     Noted { more: u8 },
-    Closed { last: bool },
-    Remark { last: bool, more: u8 },
+    Closed { end: End },
+    Remark { end: End, more: u8 },
     Done,
 }
 
 // What follows a page: nothing behind the last one, another page behind the others.
-fn after_hyphen(last: bool) -> Stage
-    ensures { result ≡ ended last }
+fn after_hyphen(end: End) -> Stage
+    ensures { result ≡ ended end }
 {
-    if last {
-        Stage::Done
-    } else {
-        Stage::Start { first: false }
+    match end {
+        End::Last => Stage::Done,
+        End::Middle => Stage::Start { page: Page::Later },
     }
 }
 
@@ -37,39 +35,28 @@ fn after_hyphen(last: bool) -> Stage
 pub fn follow(stage: Stage, tag: Tag) -> Option<Stage>
     ensures { result ≡ next_stage stage tag }
 {
-    match (stage, tag) {
-        (Stage::Start { first }, Tag::Reference) => Some(Stage::Named { first }),
-        (Stage::Named { first }, Tag::Related) => Some(Stage::Tied { first }),
-        (Stage::Named { first } | Stage::Tied { first }, Tag::Account) => Some(Stage::Held {
-            first,
-        }),
-        (Stage::Held { first }, Tag::Number) => Some(Stage::Numbered { first }),
-        (Stage::Numbered { first: true }, Tag::OpeningFirst) => Some(Stage::Body),
-        (Stage::Numbered { first: false }, Tag::OpeningLater) => Some(Stage::Body),
-        (Stage::Body | Stage::Item { .. } | Stage::Noted { .. }, Tag::Entry) => Some(Stage::Item {
+    Some(match (stage, tag) {
+        (Stage::Start { page }, Tag::Reference) => Stage::Named { page },
+        (Stage::Named { page }, Tag::Related) => Stage::Tied { page },
+        (Stage::Named { page } | Stage::Tied { page }, Tag::Account) => Stage::Held { page },
+        (Stage::Held { page }, Tag::Number) => Stage::Numbered { page },
+        (Stage::Numbered { page }, Tag::Opening(opens)) if page == opens => Stage::Body,
+        (Stage::Item { more }, Tag::Further) if more < 1 => Stage::Item { more: more + 1 },
+        (Stage::Item { .. }, Tag::Note) => Stage::Noted { more: 0 },
+        (Stage::Noted { more }, Tag::Further) if more < 5 => Stage::Noted { more: more + 1 },
+        (Stage::Body | Stage::Item { .. } | Stage::Noted { .. }, Tag::Entry) => Stage::Item {
             more: 0,
-        }),
-        (Stage::Item { more }, Tag::Further) if more < 1 => Some(Stage::Item { more: more + 1 }),
-        (Stage::Item { .. }, Tag::Note) => Some(Stage::Noted { more: 0 }),
-        (Stage::Noted { more }, Tag::Further) if more < 5 => Some(Stage::Noted { more: more + 1 }),
-        (Stage::Body | Stage::Item { .. } | Stage::Noted { .. }, Tag::ClosingLast) => Some(
-            Stage::Closed { last: true },
-        ),
-        (Stage::Body | Stage::Item { .. } | Stage::Noted { .. }, Tag::ClosingMiddle) => Some(
-            Stage::Closed { last: false },
-        ),
-        (Stage::Closed { last }, Tag::Note) => Some(Stage::Remark { last, more: 0 }),
-        (Stage::Remark { last, more }, Tag::Further) if more < 5 => {
-            Some(Stage::Remark {
-                last,
-                more: more + 1,
-            })
-        }
-        (Stage::Closed { last } | Stage::Remark { last, .. }, Tag::Hyphen) => Some(after_hyphen(
-            last,
-        )),
-        _ => None,
-    }
+        },
+        (Stage::Body | Stage::Item { .. } | Stage::Noted { .. }, Tag::Closing(end)) =>
+            Stage::Closed { end },
+        (Stage::Closed { end }, Tag::Note) => Stage::Remark { end, more: 0 },
+        (Stage::Remark { end, more }, Tag::Further) if more < 5 => Stage::Remark {
+            end,
+            more: more + 1,
+        },
+        (Stage::Closed { end } | Stage::Remark { end, .. }, Tag::Hyphen) => after_hyphen(end),
+        _ => return None,
+    })
 }
 
 // The stage that a line leads to, refused where its tag is not permitted here.

@@ -11,7 +11,7 @@ use domain::digits::Digits;
 use domain::refusal::Refusal;
 use mt940_cuts::cutting::cut;
 use mt940_cuts::slices::is_sized;
-use mt940_cuts::tag::{Tag, tagged};
+use mt940_cuts::tag::{Page, Tag, tagged};
 use mt940_fields::balance::{Balance, balance_in, balance_mark};
 use mt940_fields::movement::movement_in;
 use mt940_fields::number::{PageNumber, numbers};
@@ -45,7 +45,7 @@ pub fn begin(currency: Currency, digits: Digits) -> State
     State {
         currency,
         digits,
-        stage: Stage::Start { first: true },
+        stage: Stage::Start { page: Page::First },
         number: 1,
         page: 0,
         opening_day: Day::FIRST,
@@ -128,7 +128,7 @@ impl State {
     fn opened_first(self, body: &[u8]) -> Result<State, Refusal>
         ensures { result ≡ opened_first self body.now }
     {
-        let Arrival { stage, balance } = self.arrived(Tag::OpeningFirst, body)?;
+        let Arrival { stage, balance } = self.arrived(Tag::Opening(Page::First), body)?;
         Ok(State {
             stage,
             opening_day: balance.day,
@@ -153,7 +153,7 @@ impl State {
     fn opened_later(self, body: &[u8]) -> Result<State, Refusal>
         ensures { result ≡ opened_later self body.now }
     {
-        let Arrival { stage, balance } = self.arrived(Tag::OpeningLater, body)?;
+        let Arrival { stage, balance } = self.arrived(Tag::Opening(Page::Later), body)?;
         if !self.is_repeat(balance) {
             return Err(Refusal::Unbalanced);
         }
@@ -215,10 +215,10 @@ impl State {
             Tag::Reference | Tag::Related => self.named(tag, body, 16),
             Tag::Account => self.named(tag, body, 35),
             Tag::Number => self.numbered(body),
-            Tag::OpeningFirst => self.opened_first(body),
-            Tag::OpeningLater => self.opened_later(body),
+            Tag::Opening(Page::First) => self.opened_first(body),
+            Tag::Opening(Page::Later) => self.opened_later(body),
             Tag::Entry => self.entered(body),
-            Tag::ClosingLast | Tag::ClosingMiddle => self.closed(tag, body),
+            Tag::Closing(_) => self.closed(tag, body),
             Tag::Note | Tag::Hyphen | Tag::Further => self.passed(tag),
         }
     }
