@@ -25,6 +25,21 @@ tag_of line =
     (cond (starts_with line (codes ":86:")) (Some Note)
     (plain_tag line))))))))))
 
+-- the tag of a code that stands between colons
+unfoldable pub coded : List ℕ → Option Tag
+coded code =
+    cond (same_bytes code (codes "20")) (Some Reference)
+    (cond (same_bytes code (codes "21")) (Some Related)
+    (cond (same_bytes code (codes "25")) (Some Account)
+    (cond (same_bytes code (codes "28C")) (Some Number)
+    (cond (same_bytes code (codes "60F")) (Some (Opening First))
+    (cond (same_bytes code (codes "60M")) (Some (Opening Later))
+    (cond (same_bytes code (codes "61")) (Some Entry)
+    (cond (same_bytes code (codes "62F")) (Some (Closing Last))
+    (cond (same_bytes code (codes "62M")) (Some (Closing Middle))
+    (cond (same_bytes code (codes "86")) (Some Note)
+    None)))))))))
+
 -- the bytes that the tag itself has
 abbrev pub width_of : Tag → ℕ
 width_of Reference = 4

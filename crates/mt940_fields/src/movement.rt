@@ -14,7 +14,7 @@ use mt940_cuts::cutting::{Parts, cut};
 use mt940_cuts::slices::{behind, front};
 use mt940_cuts::tag::{Tag, tagged};
 
-// All that an entry has but its place.
+// All that an entry has but its place. It is no `Entry`, since a line does not know where in its text it stands.
 #[derive(Clone, Copy)]
 pub struct Movement {
     pub value_day: Day,

@@ -21,7 +21,7 @@ use Rattle.mt940_fields.specs.Numbers.{numbers_of}
 use Rattle.mt940_cuts.specs.Slices.{is_sized}
 use Rattle.mt940_cuts.specs.Tags.{tag_of, width_of}
 use Rattle.mt940_pages.specs.declared.stage.Stage.{Stage}
-use Rattle.mt940_pages.specs.declared.stage.Stage.TheVariants.{Start, Named, Tied, Held, Numbered, Body, Item, Noted, Closed, Remark, Done}
+use Rattle.mt940_pages.specs.declared.stage.Stage.TheVariants.{Start, Done}
 use Rattle.mt940_pages.specs.declared.state.Arrival.{Arrival}
 use Rattle.mt940_pages.specs.declared.state.State.{State}
 use Rattle.mt940_pages.specs.Stages.{placed}
@@ -32,17 +32,8 @@ begin own digits = record { currency = own; digits = digits; stage = Start First
 
 -- nothing follows the last page
 abbrev pub is_last : Stage → Bool
-is_last (Start page) = false
-is_last (Named page) = false
-is_last (Tied page) = false
-is_last (Held page) = false
-is_last (Numbered page) = false
-is_last Body = false
-is_last (Item more) = false
-is_last (Noted more) = false
-is_last (Closed end) = false
-is_last (Remark end more) = false
 is_last Done = true
+is_last g = false
 
 -- the statement has ended
 abbrev pub is_done : State → Bool
@@ -60,7 +51,7 @@ and_then (Err why) next = Err why
 
 -- a line that changes the stage alone
 abbrev pub staged : State → Stage → State
-staged s g = record { currency = s.currency; digits = s.digits; stage = g; number = s.number; page = s.page; opening_day = s.opening_day; opening = s.opening; closing_day = s.closing_day; closing = s.closing; moved = s.moved; count = s.count }
+staged s g = record s { stage = g }
 
 unfoldable pub passed_of : State → Tag → Result State Refusal
 passed_of s t = and_then (placed s.stage t) (λ g. Ok (staged s g))
@@ -74,7 +65,7 @@ unfoldable pub next_page : State → ℕ → ℕ → Bool
 next_page s number page = is_number number && (page == s.page + 1 && (page == 1 || number == s.number))
 
 abbrev pub paged : State → Stage → ℕ → ℕ → State
-paged s g number page = record { currency = s.currency; digits = s.digits; stage = g; number = number; page = page; opening_day = s.opening_day; opening = s.opening; closing_day = s.closing_day; closing = s.closing; moved = s.moved; count = s.count }
+paged s g number page = record s { stage = g; number = number; page = page }
 
 -- :28C:
 unfoldable pub numbered_of : State → List ℕ → Result State Refusal
@@ -95,7 +86,7 @@ abbrev pub sum_of : State → ℤ
 sum_of s = s.opening.minor +ℤ s.moved
 
 abbrev pub opened : State → Arrival → State
-opened s a = record { currency = s.currency; digits = s.digits; stage = a.stage; number = s.number; page = s.page; opening_day = a.balance.day; opening = a.balance.amount; closing_day = s.closing_day; closing = s.closing; moved = s.moved; count = s.count }
+opened s a = record s { stage = a.stage; opening_day = a.balance.day; opening = a.balance.amount }
 
 -- :60F: opens the statement
 unfoldable pub opened_first : State → List ℕ → Result State Refusal
@@ -110,7 +101,7 @@ unfoldable pub opened_later : State → List ℕ → Result State Refusal
 opened_later s body = and_then (arrived_of s (Opening Later) body) (λ a. cond (repeats s a.balance) (Ok (staged s a.stage)) (Err Unbalanced))
 
 abbrev pub closed : State → Arrival → State
-closed s a = record { currency = s.currency; digits = s.digits; stage = a.stage; number = s.number; page = s.page; opening_day = s.opening_day; opening = s.opening; closing_day = a.balance.day; closing = a.balance.amount; moved = s.moved; count = s.count }
+closed s a = record s { stage = a.stage; closing_day = a.balance.day; closing = a.balance.amount }
 
 -- A :62: is the opening plus the entries. Since each :60M: repeats the :62M: before, the statement's opening plus all
 -- entries so far is the page's opening plus its own entries.
@@ -118,7 +109,7 @@ unfoldable pub closed_of : State → Tag → List ℕ → Result State Refusal
 closed_of s t body = and_then (arrived_of s t body) (λ a. cond (same_int a.balance.amount.minor (sum_of s)) (Ok (closed s a)) (Err Unbalanced))
 
 abbrev pub added : State → Stage → Movement → State
-added s g m = record { currency = s.currency; digits = s.digits; stage = g; number = s.number; page = s.page; opening_day = s.opening_day; opening = s.opening; closing_day = s.closing_day; closing = s.closing; moved = s.moved +ℤ m.amount.minor; count = s.count + 1 }
+added s g m = record s { stage = g; moved = s.moved +ℤ m.amount.minor; count = s.count + 1 }
 
 -- :61:, of which a statement has at most 4,096
 unfoldable pub entered_of : State → List ℕ → Result State Refusal

@@ -1,23 +1,16 @@
 -- What holds of a reader's state at every line.
 use Rattle.std.specs.Prelude.{◌≡◌, ◌*◌, ◌≤◌, Bool, true, false, pos, neg_ℤ, ◌≤ℤ◌}
 use Rattle.mt940_pages.specs.declared.stage.Stage.{Stage}
-use Rattle.mt940_pages.specs.declared.stage.Stage.TheVariants.{Start, Named, Tied, Held, Numbered, Body, Item, Noted, Closed, Remark, Done}
+use Rattle.mt940_pages.specs.declared.stage.Stage.TheVariants.{Closed, Remark, Done}
 use Rattle.mt940_pages.specs.declared.state.State.{State}
 use Rattle.mt940_pages.specs.Judging.{sum_of}
 
 -- the page has closed
 abbrev pub is_closed : Stage → Bool
-is_closed (Start page) = false
-is_closed (Named page) = false
-is_closed (Tied page) = false
-is_closed (Held page) = false
-is_closed (Numbered page) = false
-is_closed Body = false
-is_closed (Item more) = false
-is_closed (Noted more) = false
 is_closed (Closed end) = true
 is_closed (Remark end more) = true
 is_closed Done = true
+is_closed g = false
 
 -- sums stay small, the number is one, and once a page has closed its closing is the opening plus the entries
 pub record Sound (s : State) : Type 0 where

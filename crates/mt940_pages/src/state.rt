@@ -229,6 +229,7 @@ impl Reading for State {
 
     ghost complete = { is_done };
 
+    // No ghost field of the state, since then each state that the rules in specs/ make would need a proof beside it.
     ghost sound = { Sound };
 
     #[tactic(auto, unfolding(crate::specs::Judging::step_of))]

@@ -1,6 +1,4 @@
-use Rattle.std.proofs.Common.{◌≡◌, pos, refl, arith}
-use Rattle.std.proofs.lemmas.Int.{ints}
-use Rattle.std.proofs.lemmas.Bool.{false≢true}
+use Rattle.std.proofs.Common.{◌≡◌, pos, refl}
 use Rattle.domain.specs.declared.amount.Amount.{Amount}
 use Rattle.domain.specs.declared.currency.Currency.{Currency}
 use Rattle.domain.specs.declared.day.Day.{Day}
@@ -19,9 +17,5 @@ first own digits d a e b = record { currency = own; digits = digits; stage = Sta
 same : (own : Currency) (digits : Digits) (d e : Day) (a b : Amount) → d ≡ day_zero → e ≡ day_zero → a ≡ zero_amount → b ≡ zero_amount → first own digits d a e b ≡ begin own digits
 same own digits d e a b p q x y = cc
 
-pub returns : goal.returns
-returns c =
-    record {
-      is = same c.args.currency c.args.digits _ _ _ _ (day_same _ _ refl) (day_same _ _ refl) (amount_same _ _ refl) (amount_same _ _ refl);
-      again = record { few = omega arith; low = omega (arith, ints); high = omega (arith, ints); numbered = (omega arith, omega arith); balanced = λ e. absurd (false≢true e) };
-    }
+pub returns-clause-is : goal.returns-clause-is
+returns-clause-is c = same c.args.currency c.args.digits _ _ _ _ (day_same _ _ refl) (day_same _ _ refl) (amount_same _ _ refl) (amount_same _ _ refl)
