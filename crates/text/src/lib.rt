@@ -7,7 +7,7 @@ ghost use Rattle.text.specs.Lines.{from, content_of, is_formed};
 ghost use Rattle.text.specs.Scanning.{scan_from, finish_of};
 
 use domain::reference;
-use domain::refusal::Refusal;
+use domain::refusal::{Refusal, Refused};
 
 // The offset of the first byte `b` from `at` on; none also where `at` lies past the end.
 pub fn find(text: &[u8], b: u8, at: usize) -> Option<usize>
@@ -60,7 +60,7 @@ pub trait Reading: Sized {
 }
 
 // What the end of the lines leads to.
-fn finish<S: Reading + Copy>(state: S, at: usize, total: usize) -> Result<S, (Refusal, usize)>
+fn finish<S: Reading + Copy>(state: S, at: usize, total: usize) -> Result<S, Refused>
     requires { S.Reading.sound state }
     ensures is { result ≡ finish_of S.Reading.complete total at state }
     ensures again { IfOk result S.Reading.sound }
@@ -68,7 +68,10 @@ fn finish<S: Reading + Copy>(state: S, at: usize, total: usize) -> Result<S, (Re
     if state.is_complete() && at == total {
         Ok(state)
     } else {
-        Err((Refusal::EndsEarly, total))
+        Err(Refused {
+            why: Refusal::EndsEarly,
+            offset: total,
+        })
     }
 }
 
@@ -83,7 +86,7 @@ fn advance<S: Reading + Copy>(state: S, raw: &[u8]) -> Result<S, Refusal>
 }
 
 // The whole text: what has been read at its end, or a refusal and the offset of its line.
-pub fn scan<S: Reading + Copy>(start: S, text: &[u8]) -> Result<S, (Refusal, usize)>
+pub fn scan<S: Reading + Copy>(start: S, text: &[u8]) -> Result<S, Refused>
     requires { S.Reading.sound start }
     ensures is { result ≡ scan_from S.Reading.stepped S.Reading.complete text.now 0 start }
     ensures again { IfOk result S.Reading.sound }
@@ -93,7 +96,7 @@ pub fn scan<S: Reading + Copy>(start: S, text: &[u8]) -> Result<S, (Refusal, usi
     while let Some(lf) = find(text, 10, at) {
         match advance(state, &text[at..lf]) {
             Ok(next) => state = next,
-            Err(why) => return Err((why, at)),
+            Err(why) => return Err(Refused { why, offset: at }),
         }
         at = lf + 1;
     }
