@@ -1,28 +1,26 @@
--- The search for a byte, and a line's content.
-use Rattle.std.proofs.Common.{◌≡◌, ℕ, suc, ◌+◌, ◌-◌, ◌<◌, ◌≤◌, false, ◌&&◌, eqb, leb, List, [], ◌∷◌, length, get_or, take, drop, Some, None, Option, sym, refl, ap, ◌∙◌, inl, inr, arith}
-use Rattle.std.proofs.lemmas.List.{at_drop_more, at_drop_all, take_all}
-use Rattle.std.proofs.lemmas.Bool.{eq-eqb, ne_eqb, cond-true, cond-false, cases_Bool, and_from, le-leb}
-use Rattle.std.proofs.lemmas.Bool.Decides.{nat_tests}
-use Rattle.text.specs.Lines.{from, split, ahead, content_of}
+-- The search for a byte, and the first line of a text.
+use Rattle.std.proofs.Common.{◌≡◌, ℕ, suc, ◌+◌, true, false, Bool, cond, ◌==◌, eqb, List, [], ◌∷◌, take, drop, Some, None, Option, sym, refl, ap, ◌∙◌, inl, inr, arith}
+use Rattle.std.specs.List.{position, position_from}
+use Rattle.std.specs.Option.{option_map}
+use Rattle.std.proofs.lemmas.Iterator.Adapters.{position_from-zero}
+use Rattle.std.proofs.lemmas.Bool.{cond-true, cond-false, cases_Bool}
+use Rattle.text.specs.Lines.{from, split, ahead}
 
-pub found_here : (b : ℕ) (bs : List ℕ) (i : ℕ) → i < length bs → get_or bs i 0 ≡ b → from b i (drop i bs) ≡ Some i
-found_here b bs i h e = at_drop_more (from b i) bs i 0 h ∙ cond-true _ (Some i) (from b (i + 1) (drop (i + 1) bs)) (eq-eqb _ _ e)
+-- a place counted from j, counted from i more
+place_on : (p : ℕ → Bool) (i j : ℕ) (bs : List ℕ) → option_map (λ k. i + k) (position_from p j bs) ≡ position_from p (i + j) bs
+place_on p i j [] = refl
+place_on p i j (b ∷ bs) =
+    elim (p b) as (λ v. option_map (λ k. i + k) (cond v (Some j) (position_from p (j + 1) bs)) ≡ cond v (Some (i + j)) (position_from p (i + j + 1) bs)) [
+      | true ↦ refl
+      | false ↦ place_on p i (j + 1) bs ∙ ap (λ (n : ℕ). position_from p n bs) (omega arith)
+    ]
 
-pub found_later : (b : ℕ) (bs : List ℕ) (i : ℕ) → i < length bs → (get_or bs i 0 ≡ b → ⊥) → from b i (drop i bs) ≡ from b (i + 1) (drop (i + 1) bs)
-found_later b bs i h e = at_drop_more (from b i) bs i 0 h ∙ cond-false _ (Some i) (from b (i + 1) (drop (i + 1) bs)) (ne_eqb _ _ e)
-
-pub found_never : (b : ℕ) (bs : List ℕ) (i : ℕ) → length bs ≤ i → from b i (drop i bs) ≡ None
-found_never b bs i h = at_drop_all (from b i) bs i h
-
-pub content_cr : (raw : List ℕ) → 1 ≤ length raw → get_or raw (length raw - 1) 0 ≡ 13 → take (length raw - 1) raw ≡ content_of raw
-unfolding content_of
-content_cr raw h e = sym (cond-true _ (take (length raw - 1) raw) raw (and_from _ _ (le-leb _ _ h) (eq-eqb _ _ e)))
-
-pub content_lf : (raw : List ℕ) → (1 ≤ length raw → get_or raw (length raw - 1) 0 ≡ 13 → ⊥) → take (length raw) raw ≡ content_of raw
-unfolding content_of
-content_lf raw h =
-    let f : (leb 1 (length raw) && eqb (get_or raw (length raw - 1) 0) 13) ≡ false = grind (arith, nat_tests) in
-    take_all (length raw) raw (omega arith) ∙ sym (cond-false _ (take (length raw - 1) raw) raw f)
+-- the place that a search from i on finds
+pub place_from : (b i : ℕ) (bs : List ℕ) → option_map (λ k. i + k) (position (λ x. x == b) bs) ≡ from b i bs
+place_from b i bs =
+    ap (option_map (λ k. i + k)) (position_from-zero (λ x. x == b) bs)
+    ∙ place_on (λ x. x == b) i 0 bs
+    ∙ ap (λ (n : ℕ). position_from (λ x. x == b) n bs) (omega arith)
 
 -- the first line of a text whose first LF stands at n
 pub record First (i n : ℕ) (bs : List ℕ) : Type 0 where

@@ -1,2 +1,4 @@
 pub mod Finding
 pub mod Lining
+pub mod Scanned
+pub mod Inside

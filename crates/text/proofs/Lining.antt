@@ -1,11 +1,7 @@
--- How a reader goes through a text: the line at an offset, and one step of a scan.
-use Rattle.std.proofs.Common.{◌≡◌, ℕ, suc, ◌+◌, ◌-◌, ◌<◌, ◌≤◌, Bool, List, [], ◌∷◌, length, take, drop, Some, None, Ok, Err, Result, ap, ◌∙◌, arith}
+-- How a reader goes through a text: the line at an offset, and the lines from it on.
+use Rattle.std.proofs.Common.{◌≡◌, ℕ, suc, ◌+◌, ◌-◌, ◌<◌, ◌≤◌, List, [], ◌∷◌, length, take, drop, Some, None, ap, ◌∙◌, arith}
 use Rattle.std.proofs.lemmas.List.{drop-drop, length-drop, length-take-le}
-use Rattle.domain.specs.declared.refusal.Refusal.{Refusal}
-use Rattle.domain.specs.declared.refusal.Refused.{Refused}
-use Rattle.domain.specs.Refusing.{refused_at}
-use Rattle.text.specs.Lines.{from, split, content_of}
-use Rattle.text.specs.Scanning.{scan_of, scan_from}
+use Rattle.text.specs.Lines.{from, split, numbered, lines_from}
 use Rattle.text.proofs.Finding.{First, first_line, no_line}
 
 -- the line at an offset, up to its LF, and the lines behind it
@@ -25,15 +21,11 @@ line_next text at lf a b =
     let long : length (take (lf - at) (drop at text)) ≡ lf - at = length-take-le (lf - at) (drop at text) (simp length-drop (omega arith)) in
     omega arith
 
-module _ {S : Type 0} (step : S → List ℕ → Result S Refusal) (complete : S → Bool) where
-  -- what follows a step
-  abbrev pub onward : List ℕ → ℕ → ℕ → Result S Refusal → Result S Refused
-  onward text at next r = elim r [ Ok u ↦ scan_from step complete text next u | Err why ↦ Err (refused_at why at) ]
+-- the lines from an offset on: the one there, and those behind its LF
+pub lines_at : (text : List ℕ) (at lf : ℕ) → at ≤ lf → lf < length text → from 10 at (drop at text) ≡ Some lf → lines_from at (drop at text) ≡ (at, take (lf - at) (drop at text)) ∷ lines_from (lf + 1) (drop (lf + 1) text)
+lines_at text at lf a b e =
+    ap (numbered at) (line_at text at lf e)
+    ∙ ap (λ (n : ℕ). (at, take (lf - at) (drop at text)) ∷ numbered n (split (drop (lf + 1) text))) (line_next text at lf a b)
 
-  pub scan_line : (text : List ℕ) (at lf : ℕ) (s : S) → at ≤ lf → lf < length text → from 10 at (drop at text) ≡ Some lf → scan_from step complete text at s ≡ onward text at (lf + 1) (step s (content_of (take (lf - at) (drop at text))))
-  scan_line text at lf s a b e =
-      ap (scan_of step complete (length text) at s) (line_at text at lf e)
-      ∙ ap (λ (n : ℕ). elim (step s (content_of (take (lf - at) (drop at text)))) as (λ _. Result S Refused) [ Ok u ↦ scan_of step complete (length text) n u (split (drop (lf + 1) text)) | Err why ↦ Err (refused_at why at) ]) (line_next text at lf a b)
-
-  pub scan_end : (text : List ℕ) (at : ℕ) (s : S) → from 10 at (drop at text) ≡ None → scan_from step complete text at s ≡ scan_of step complete (length text) at s []
-  scan_end text at s e = ap (scan_of step complete (length text) at s) (line_end text at e)
+pub lines_end : (text : List ℕ) (at : ℕ) → from 10 at (drop at text) ≡ None → lines_from at (drop at text) ≡ []
+lines_end text at e = ap (numbered at) (line_end text at e)

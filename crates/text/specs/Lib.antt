@@ -1,2 +1,3 @@
 pub mod Lines
 pub mod Scanning
+pub mod Left

@@ -3,9 +3,14 @@
 
 ghost use Rattle.std.specs.Prelude.{◌≡◌, ℕ, ◌<◌, ◌≤◌, Bool, List, length, take, drop, IfSome, IfOk, Result};
 ghost use Rattle.domain.specs.declared.refusal.Refusal.{Refusal};
-ghost use Rattle.text.specs.Lines.{from, content_of, is_formed};
-ghost use Rattle.text.specs.Scanning.{scan_from, finish_of};
+ghost use Rattle.std.specs.Iterator.{YieldsFirstBy, item_count};
+ghost use Rattle.text.specs.Lines.{from, content_of, is_formed, is_whole, lines_from};
+ghost use Rattle.text.specs.Left.{shown, lines_left};
+ghost use Rattle.text.specs.Scanning.{scan_from};
 
+pub mod line;
+
+use crate::line::Line;
 use domain::reference;
 use domain::refusal::{Refusal, Refused};
 
@@ -14,28 +19,46 @@ pub fn find(text: &[u8], b: u8, at: usize) -> Option<usize>
     ensures is { result ≡ from b at (drop at text.now) }
     ensures within { IfSome result (λ i. (at ≤ i) × (i < length text.now)) }
 {
-    for i in at..text.len() {
-        if text[i] == b {
-            return Some(i);
-        }
-    }
-    None
+    text.iter().skip(at).position(|x| *x == b).map(|i| at + i)
 }
 
-// How many bytes of a line stand before its CR.
-pub fn content(raw: &[u8]) -> usize
-    ensures is { take result raw.now ≡ content_of raw.now }
-    ensures within { result ≤ length raw.now }
+// The lines of a text from an offset on; what stands behind the last LF is no line.
+#[derive(Clone, Copy)]
+pub struct Lines<'a> {
+    text: &'a [u8],
+    at: usize,
+}
+
+pub fn lines_from(text: &[u8], at: usize) -> Lines<'_>
+    ensures { lines_left result ≡ lines_from at (drop at text.now) }
 {
-    let n = raw.len();
-    if n >= 1 && raw[n - 1] == 13 { n - 1 } else { n }
+    Lines { text, at }
+}
+
+impl<'a> Iterator for Lines<'a> {
+    type Item = Line<'a>;
+
+    ghost next_gives = { YieldsFirstBy shown lines_left };
+
+    ghost remaining = { item_count lines_left };
+
+    fn next(&mut self) -> Option<Line<'a>> {
+        let end = find(self.text, b'\n', self.at)?;
+        let line = Line {
+            at: self.at,
+            raw: &self.text[self.at..end],
+        };
+        self.at = end + 1;
+        Some(line)
+    }
 }
 
 // Whether a line has 1 to 80 bytes from 32 to 126.
+#[tactic(auto, unfolding(crate::specs::Lines::is_formed))]
 pub fn is_formed(line: &[u8]) -> bool
     ensures { result ≡ is_formed line.now }
 {
-    1 <= line.len() && line.len() <= 80 && reference::is_plain(line)
+    (1..=80).contains(&line.len()) && reference::is_plain(line)
 }
 
 // What has been read of a text, line by line.
@@ -59,30 +82,12 @@ pub trait Reading: Sized {
         ensures { result ≡ complete self.now };
 }
 
-// What the end of the lines leads to.
-fn finish<S: Reading + Copy>(state: S, at: usize, total: usize) -> Result<S, Refused>
-    requires { S.Reading.sound state }
-    ensures is { result ≡ finish_of S.Reading.complete total at state }
-    ensures again { IfOk result S.Reading.sound }
+// Whether a text ends with an LF, or is empty, so that no line of it is cut off.
+#[tactic(auto, unfolding(crate::specs::Lines::is_whole))]
+fn is_whole(text: &[u8]) -> bool
+    ensures { result ≡ is_whole text.now }
 {
-    if state.is_complete() && at == total {
-        Ok(state)
-    } else {
-        Err(Refused {
-            why: Refusal::EndsEarly,
-            offset: total,
-        })
-    }
-}
-
-// One line, given with its CR, if it has one.
-fn advance<S: Reading + Copy>(state: S, raw: &[u8]) -> Result<S, Refusal>
-    requires { S.Reading.sound state }
-    ensures is { result ≡ S.Reading.stepped state (content_of raw.now) }
-    ensures again { IfOk result S.Reading.sound }
-{
-    let n = content(raw);
-    state.step(&raw[0..n])
+    matches!(text, [] | [.., b'\n'])
 }
 
 // The whole text: what has been read at its end, or a refusal and the offset of its line.
@@ -92,13 +97,18 @@ pub fn scan<S: Reading + Copy>(start: S, text: &[u8]) -> Result<S, Refused>
     ensures again { IfOk result S.Reading.sound }
 {
     let mut state = start;
-    let mut at = 0;
-    while let Some(lf) = find(text, 10, at) {
-        match advance(state, &text[at..lf]) {
-            Ok(next) => state = next,
-            Err(why) => return Err(Refused { why, offset: at }),
-        }
-        at = lf + 1;
+    for line in lines_from(text, 0) {
+        state = state.step(line.content()).map_err(|why| Refused {
+            why,
+            offset: line.at,
+        })?;
     }
-    finish(state, at, text.len())
+    if state.is_complete() && is_whole(text) {
+        Ok(state)
+    } else {
+        Err(Refused {
+            why: Refusal::EndsEarly,
+            offset: text.len(),
+        })
+    }
 }

@@ -1,13 +1,16 @@
-use Rattle.std.proofs.Common.{sym, ◌∙◌, arith}
-use Rattle.text.proofs.Finding.{found_here, found_later, found_never}
+use Rattle.std.proofs.Common.{rules, tests, ◌≡◌, ◌==◌, ◌+◌, drop, ap, ◌∙◌}
+use Rattle.std.specs.List.{position}
+use Rattle.std.specs.Option.{option_map}
+use Rattle.std.proofs.lemmas.Grind.{common_steps}
+use Rattle.std.proofs.lemmas.Iterator.{YieldsList-from_slice}
+use Rattle.std.proofs.lemmas.Iterator.Adapters.{YieldsList-from_skip}
+use Rattle.std.proofs.lemmas.Iterator.Search.{position_from_yields_List}
+use Rattle.text.proofs.Finding.{place_from}
 use Rattle.text.proofs.find.Goals as goal
 
-pub returns-then-text-i : goal.returns-then-text-i
-returns-then-text-i c =
-    record { is = sym (found_here c.args.b c.args.text.now c.loop-i.i (omega arith) c.if-text-i.true) ∙ c.loop-i.invariant; within = (omega arith, omega arith) }
-
-pub loop-i-preserved : goal.loop-i-preserved
-loop-i-preserved c = sym (found_later c.args.b c.args.text.now c.loop-i.i (omega arith) c.if-text-i.false) ∙ c.loop-i.invariant
-
-pub returns : goal.returns
-returns c = record { is = sym (found_never c.args.b c.args.text.now c.loop-i.i (omega arith)) ∙ c.loop-i.invariant; within = tt }
+pub returns-clause-is : goal.returns-clause-is
+returns-clause-is c =
+    let bs = drop c.args.at c.args.text.now in
+    let p : c.position.result ≡ position (λ x. x == c.args.b) bs = position_from_yields_List _ _ _ _ c.position.ensures.ran (YieldsList-from_skip _ (YieldsList-from_slice c.args.text.now (cc)) (cc)) (λ x b q k. search (rules, tests)) in
+    let m : c.map.result ≡ option_map (λ i. c.args.at + i) c.position.result = search (rules, common_steps) in
+    m ∙ ap (option_map (λ i. c.args.at + i)) p ∙ place_from c.args.b c.args.at bs

@@ -1,13 +1,12 @@
-use Rattle.std.proofs.Common.{◌≡◌, ◌-◌, ◌≤◌, length}
-use Rattle.text.specs.Scanning.{scan_from}
+use Rattle.std.proofs.Common.{◌≡◌}
+use Rattle.text.specs.Lines.{lines_from}
+use Rattle.text.specs.Left.{lines_left}
+use Rattle.text.proofs.Scanned.{steps_over}
 use Rattle.text.proofs.scan.Given as goal
 
--- what is left of the text, read from the state reached, gives the whole
-abbrev pub invariant-loop-lf : goal.invariant-loop-lf
-invariant-loop-lf g l =
+-- the steps over the lines that are left, from the state reached, give those over all lines
+abbrev pub invariant-loop-line : goal.invariant-loop-line
+invariant-loop-line g l =
     let r = g.S.Reading in
-    (scan_from r.stepped r.complete l.text l.at l.state ≡ scan_from r.stepped r.complete l.text 0 l.initial.state)
-    × ((l.at ≤ length l.text) × r.sound l.state)
-
-abbrev pub decreases-loop-lf : goal.decreases-loop-lf
-decreases-loop-lf g l = length l.text - l.at
+    (steps_over r.stepped r.complete l.state (lines_left l.line-iterator) ≡ steps_over r.stepped r.complete l.fn.start (lines_from 0 l.text))
+    × r.sound l.state
