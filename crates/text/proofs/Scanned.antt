@@ -73,23 +73,23 @@ abbrev pub onward : {S : Type 0} → (S → Result S Refused) → Result S Refus
 onward end (Ok s) = end s
 onward end (Err refused) = Err refused
 
-module _ {S : Type 0} (step : S → List ℕ → Result S Refusal) (complete : S → Bool) where
-  -- the steps over lines with their offsets
-  abbrev pub steps_over : S → List (ℕ × List ℕ) → Result S Refused
-  steps_over s [] = Ok s
-  steps_over s (x ∷ xs) = elim (step s (content_of x.1)) [ Ok u ↦ steps_over u xs | Err why ↦ Err (refused_at why x.0) ]
+-- the steps over lines with their offsets
+abbrev pub steps_over : {S : Type 0} → (S → List ℕ → Result S Refusal) → S → List (ℕ × List ℕ) → Result S Refused
+steps_over step s [] = Ok s
+steps_over step s (x ∷ xs) = elim (step s (content_of x.1)) [ Ok u ↦ steps_over step u xs | Err why ↦ Err (refused_at why x.0) ]
 
-  after_step : (total at : ℕ) (l : List ℕ) (ls : List (List ℕ)) (r : Result S Refusal) → ((s : S) → scan_of step complete total (at + length l + 1) s ls ≡ onward (λ u. finish_of complete total (behind (at + length l + 1) ls) u) (steps_over s (numbered (at + length l + 1) ls))) →
+module _ {S : Type 0} (step : S → List ℕ → Result S Refusal) (complete : S → Bool) where
+  after_step : (total at : ℕ) (l : List ℕ) (ls : List (List ℕ)) (r : Result S Refusal) → ((s : S) → scan_of step complete total (at + length l + 1) s ls ≡ onward (λ u. finish_of complete total (behind (at + length l + 1) ls) u) (steps_over step s (numbered (at + length l + 1) ls))) →
       elim r as (λ _. Result S Refused) [ Ok u ↦ scan_of step complete total (at + length l + 1) u ls | Err why ↦ Err (refused_at why at) ]
-      ≡ onward (λ u. finish_of complete total (behind at (l ∷ ls)) u) (elim r [ Ok u ↦ steps_over u (numbered (at + length l + 1) ls) | Err why ↦ Err (refused_at why at) ])
+      ≡ onward (λ u. finish_of complete total (behind at (l ∷ ls)) u) (elim r [ Ok u ↦ steps_over step u (numbered (at + length l + 1) ls) | Err why ↦ Err (refused_at why at) ])
   after_step total at l ls (Ok u) h = h u
   after_step total at l ls (Err why) h = refl
 
-  scan_steps : (total at : ℕ) (s : S) (ls : List (List ℕ)) → scan_of step complete total at s ls ≡ onward (λ u. finish_of complete total (behind at ls) u) (steps_over s (numbered at ls))
+  scan_steps : (total at : ℕ) (s : S) (ls : List (List ℕ)) → scan_of step complete total at s ls ≡ onward (λ u. finish_of complete total (behind at ls) u) (steps_over step s (numbered at ls))
   scan_steps total at s [] = refl
   scan_steps total at s (l ∷ ls) = after_step total at l ls (step s (content_of l)) (λ u. scan_steps total (at + length l + 1) u ls)
 
-  pub scanned : (text : List ℕ) (s : S) → scan_from step complete text 0 s ≡ onward (λ u. cond (complete u && is_whole text) (Ok u) (Err (refused_at EndsEarly (length text)))) (steps_over s (lines_from 0 text))
+  pub scanned : (text : List ℕ) (s : S) → scan_from step complete text 0 s ≡ onward (λ u. cond (complete u && is_whole text) (Ok u) (Err (refused_at EndsEarly (length text)))) (steps_over step s (lines_from 0 text))
   scanned text s =
       scan_steps (length text) 0 s (split text)
-      ∙ ap (λ (w : Bool). onward (λ u. cond (complete u && w) (Ok u) (Err (refused_at EndsEarly (length text)))) (steps_over s (lines_from 0 text))) (whole_behind text)
+      ∙ ap (λ (w : Bool). onward (λ u. cond (complete u && w) (Ok u) (Err (refused_at EndsEarly (length text)))) (steps_over step s (lines_from 0 text))) (whole_behind text)

@@ -42,6 +42,7 @@ impl<'a> Iterator for Lines<'a> {
 
     ghost remaining = { item_count lines_left };
 
+    #[tactic(auto, using(crate::proofs::Lining::lines_at, crate::proofs::Lining::lines_end))]
     fn next(&mut self) -> Option<Line<'a>> {
         let end = find(self.text, b'\n', self.at)?;
         let line = Line {
@@ -91,6 +92,7 @@ fn is_whole(text: &[u8]) -> bool
 }
 
 // The whole text: what has been read at its end, or a refusal and the offset of its line.
+#[tactic(auto, using(crate::proofs::Scanned::scanned))]
 pub fn scan<S: Reading + Copy>(start: S, text: &[u8]) -> Result<S, Refused>
     requires { S.Reading.sound start }
     ensures is { result ≡ scan_from S.Reading.stepped S.Reading.complete text.now 0 start }

@@ -8,5 +8,5 @@ use Rattle.text.proofs.scan.Given as goal
 abbrev pub invariant-loop-line : goal.invariant-loop-line
 invariant-loop-line g l =
     let r = g.S.Reading in
-    (steps_over r.stepped r.complete l.state (lines_left l.line-iterator) ≡ steps_over r.stepped r.complete l.fn.start (lines_from 0 l.text))
+    (steps_over r.stepped l.state (lines_left l.line-iterator) ≡ steps_over r.stepped l.fn.start (lines_from 0 l.text))
     × r.sound l.state
