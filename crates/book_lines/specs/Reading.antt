@@ -1,10 +1,12 @@
 -- What a line of a cash book states, and the entry in it.
-use Rattle.std.specs.Prelude.{ℕ, cond, ◌&&◌, List, length, Some, None, codes, Option, ◌==◌}
+use Rattle.std.specs.Prelude.{ℕ, cond, ◌&&◌, List, [], ◌∷◌, Some, None, codes, Option}
+use Rattle.std.specs.Option.{option_map}
+use Rattle.domain.specs.declared.amount.Amount.{Amount}
+use Rattle.domain.specs.declared.day.Day.{Day}
 use Rattle.domain.specs.declared.entry.Entry.{Entry}
 use Rattle.domain.specs.declared.entry.Kind.{Kind}
 use Rattle.domain.specs.declared.entry.Kind.TheVariants.{Ordinary, Reversal}
 use Rattle.domain.specs.declared.entry.Place.{Place}
-use Rattle.domain.specs.declared.key.Key.{Key}
 use Rattle.domain.specs.Makers.{as_currency, as_key}
 use Rattle.domain.specs.References.{same_bytes}
 use Rattle.fields.specs.Runs.{numeral_of}
@@ -13,33 +15,31 @@ use Rattle.calendar.specs.Dates.{day_in, is_date}
 use Rattle.text.specs.Lines.{is_formed}
 use Rattle.book_lines.specs.declared.line.Line.{Line}
 use Rattle.book_lines.specs.declared.line.Line.TheVariants.{Opens, Enters, Closes}
-use Rattle.book_lines.specs.Fields.{fields_of, field_at}
+use Rattle.book_lines.specs.Fields.{fields_of}
 
--- B, currency, number, opening day, opening
-abbrev pub opening_by : List (List ℕ) → Option ℕ → Option Line
-opening_by fs None = None
-opening_by fs (Some n) = Some (Opens (record { currency = as_currency (field_at fs 1); number = n; day = day_in (field_at fs 3); amount = units_of (field_at fs 4) }))
+-- a number, a day and an amount, with which the lines of an opening and of a closing end
+abbrev pub balance_of : List (List ℕ) → Option (ℕ × Option Day × Option Amount)
+balance_of (number ∷ day ∷ amount ∷ []) = cond (is_date day) (option_map (λ n. (n, day_in day, units_of amount)) (numeral_of 5 number)) None
+balance_of _ = None
 
+-- currency, number, opening day, opening
 abbrev pub opening_of : List (List ℕ) → Option Line
-opening_of fs = cond (length fs == 5 && is_date (field_at fs 3)) (opening_by fs (numeral_of 5 (field_at fs 2))) None
+opening_of [] = None
+opening_of (currency ∷ fs) = option_map (λ b. Opens (record { currency = as_currency currency; number = b.0; day = b.1; amount = b.2 })) (balance_of fs)
 
--- E or R, value day, entry day, amount, reference, and a text that is not read
-abbrev pub row_by : Kind → List (List ℕ) → Option Key → Option Line
-row_by kind fs None = None
-row_by kind fs (Some key) = Some (Enters (record { kind = kind; value_day = day_in (field_at fs 1); entry_day = day_in (field_at fs 2); amount = units_of (field_at fs 3); key = key }))
-
+-- value day, entry day, amount, reference, and a text that is not read
 abbrev pub row_of : Kind → List (List ℕ) → Option Line
-row_of kind fs = cond (length fs == 6 && (is_date (field_at fs 1) && is_date (field_at fs 2))) (row_by kind fs (as_key (field_at fs 4))) None
+row_of kind (value ∷ day ∷ amount ∷ reference ∷ text ∷ []) =
+    cond (is_date value && is_date day)
+    (option_map (λ key. Enters (record { kind = kind; value_day = day_in value; entry_day = day_in day; amount = units_of amount; key = key })) (as_key reference))
+    None
+row_of kind _ = None
 
--- Z, count of entries, closing day, closing
-abbrev pub closing_by : List (List ℕ) → Option ℕ → Option Line
-closing_by fs None = None
-closing_by fs (Some n) = Some (Closes (record { count = n; day = day_in (field_at fs 2); amount = units_of (field_at fs 3) }))
-
+-- count of entries, closing day, closing
 abbrev pub closing_of : List (List ℕ) → Option Line
-closing_of fs = cond (length fs == 4 && is_date (field_at fs 2)) (closing_by fs (numeral_of 5 (field_at fs 1))) None
+closing_of fs = option_map (λ b. Closes (record { count = b.0; day = b.1; amount = b.2 })) (balance_of fs)
 
--- the tag is the first field
+-- what the fields behind a tag state: B, E, R or Z
 abbrev pub tagged_of : List ℕ → List (List ℕ) → Option Line
 tagged_of tag fs =
     cond (same_bytes tag (codes "B")) (opening_of fs)
@@ -48,9 +48,14 @@ tagged_of tag fs =
     (cond (same_bytes tag (codes "Z")) (closing_of fs)
     None)))
 
+-- the tag is the first field
+abbrev pub stated_of : List (List ℕ) → Option Line
+stated_of [] = None
+stated_of (tag ∷ fs) = tagged_of tag fs
+
 -- what a line states, given without its LF and CR; none where it has not its form
 unfoldable pub line_of : List ℕ → Option Line
-line_of line = cond (is_formed line) (tagged_of (field_at (fields_of line) 0) (fields_of line)) None
+line_of line = cond (is_formed line) (stated_of (fields_of line)) None
 
 -- the entry that a line states; none where it states no entry, or one with no such day or no amount
 abbrev pub entry_of : Place → Line → Option Entry

@@ -1,41 +1,42 @@
-ghost use Rattle.std.specs.Prelude.{◌≡◌, ◌+◌, ◌≤◌, [], length, ◌==◌};
-ghost use Rattle.book_lines.specs.Fields.{fields_of, field_at};
+ghost use Rattle.std.specs.Prelude.{◌≡◌};
+ghost use Rattle.std.specs.Iterator.{YieldsFirstRef, item_count};
+ghost use Rattle.book_lines.specs.Fields.{fields_of};
+ghost use Rattle.book_lines.specs.Left.{fields_left};
 
 use text::find;
 
-// How many commas a line has: one fewer than its fields.
-fn commas(line: &[u8]) -> usize
-    ensures is { result + 1 ≡ length (fields_of line.now) }
-    ensures few { result ≤ length line.now }
+// The fields of a line, one by one: what stands between its commas.
+#[derive(Clone, Copy)]
+pub(crate) struct Fields<'a> {
+    // From the next field on; none behind the last.
+    rest: Option<&'a [u8]>,
+}
+
+pub(crate) fn fields_of(line: &[u8]) -> Fields<'_>
+    ensures { fields_left result ≡ fields_of line.now }
 {
-    let mut n: usize = 0;
-    for b in line {
-        if *b == b',' {
-            n += 1;
+    Fields { rest: Some(line) }
+}
+
+impl<'a> Iterator for Fields<'a> {
+    type Item = &'a [u8];
+
+    ghost next_gives = { YieldsFirstRef fields_left };
+
+    ghost remaining = { item_count fields_left };
+
+    #[tactic(auto, using(crate::proofs::Cutting::first_field, crate::proofs::Cutting::last_field))]
+    fn next(&mut self) -> Option<&'a [u8]> {
+        let rest = self.rest?;
+        match find(rest, b',', 0) {
+            Some(comma) => {
+                self.rest = Some(&rest[comma + 1..]);
+                Some(&rest[..comma])
+            }
+            None => {
+                self.rest = None;
+                Some(rest)
+            }
         }
-    }
-    n
-}
-
-pub(crate) fn has_fields(line: &[u8], n: usize) -> bool
-    ensures { result ≡ (length (fields_of line.now) == n) }
-{
-    commas(line) + 1 == n
-}
-
-// The field with k fields before it; nothing where there is none.
-pub(crate) fn field(line: &[u8], k: usize) -> &[u8]
-    ensures { result.now ≡ field_at (fields_of line.now) k }
-{
-    let mut at = 0;
-    for i in 0..k {
-        let Some(comma) = find(line, b',', at) else {
-            return &line[0..0];
-        };
-        at = comma + 1;
-    }
-    match find(line, b',', at) {
-        Some(comma) => &line[at..comma],
-        None => &line[at..],
     }
 }
