@@ -19,7 +19,8 @@ pub fn find(text: &[u8], b: u8, at: usize) -> Option<usize>
     ensures is { result ≡ from b at (drop at text.now) }
     ensures within { IfSome result (λ i. (at ≤ i) × (i < length text.now)) }
 {
-    text.iter().skip(at).position(|x| *x == b).map(|i| at + i)
+    let left = text.get(at..)?;
+    left.iter().position(|x| *x == b).map(|i| at + i)
 }
 
 // The lines of a text from an offset on; what stands behind the last LF is no line.

@@ -3,7 +3,6 @@ use Rattle.std.specs.List.{position}
 use Rattle.std.specs.Option.{option_map}
 use Rattle.std.proofs.lemmas.Grind.{common_steps}
 use Rattle.std.proofs.lemmas.Iterator.{YieldsList-from_slice}
-use Rattle.std.proofs.lemmas.Iterator.Adapters.{YieldsList-from_skip}
 use Rattle.std.proofs.lemmas.Iterator.Search.{position_from_yields_List}
 use Rattle.text.proofs.Finding.{place_from}
 use Rattle.text.proofs.find.Goals as goal
@@ -11,6 +10,7 @@ use Rattle.text.proofs.find.Goals as goal
 pub returns-clause-is : goal.returns-clause-is
 returns-clause-is c =
     let bs = drop c.args.at c.args.text.now in
-    let p : c.position.result ≡ position (λ x. x == c.args.b) bs = position_from_yields_List _ _ _ _ c.position.ensures.ran (YieldsList-from_skip _ (YieldsList-from_slice c.args.text.now (cc)) (cc)) (λ x b q k. search (rules, tests)) in
+    let l : c.in_ok-left.left.now ≡ bs = search (rules, common_steps) in
+    let p : c.position.result ≡ position (λ x. x == c.args.b) bs = position_from_yields_List _ _ _ _ c.position.ensures.ran (YieldsList-from_slice bs (cc)) (λ x b q k. search (rules, tests)) in
     let m : c.map.result ≡ option_map (λ i. c.args.at + i) c.position.result = search (rules, common_steps) in
     m ∙ ap (option_map (λ i. c.args.at + i)) p ∙ place_from c.args.b c.args.at bs
