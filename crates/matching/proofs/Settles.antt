@@ -1,14 +1,17 @@
 -- After a pass nothing is left that could be found: joining items makes no other item outstanding.
-use Rattle.std.proofs.Common.{◌≡◌, ℕ, zero, suc, ◌+◌, ◌<◌, ◌≤◌, min, Bool, true, false, ◌≢◌, List, [], ◌∷◌, length, Some, None, Option, sym, refl, ap, ◌∙◌, subst, ⊎_elim, arith}
+use Rattle.std.proofs.Common.{◌≡◌, position, nat_lt, ℕ, zero, suc, ◌+◌, ◌<◌, ◌≤◌, min, Bool, true, false, ◌≢◌, List, [], ◌∷◌, length, Some, None, Option, sym, refl, ap, ◌∙◌, subst, ⊎_elim, arith}
+use Rattle.std.specs.List.{position_or_len}
+use Rattle.std.proofs.Math.ListN.{get_or-eq_default}
 use Rattle.std.proofs.lemmas.List.{length-set, get_or-set_same}
-use Rattle.std.proofs.lemmas.Bool.{and_parts, and_from, cond-true, cond-false, cases_Bool, cases_lt, true≢false, eqb-true}
+use Rattle.std.proofs.lemmas.List.Sums.{fails_before_first}
+use Rattle.std.proofs.lemmas.Bool.{and_parts, and_from, cond-true, cond-false, cases_Bool, cases_lt, true≢false, eqb-true, lt-ltb, le-leb}
 use Rattle.domain.specs.declared.entry.Side.{Side}
 use Rattle.domain.specs.declared.entry.Side.TheVariants.{Bank, Book}
 use Rattle.domain.specs.declared.entry.Entry.{Entry}
 use Rattle.domain.specs.declared.entry.Item.{Item}
 use Rattle.domain.specs.Blanks.{blank}
 use Rattle.domain.specs.Entries.{same_side, is_reversal}
-use Rattle.matching.specs.Grouping.{Finder, outstanding, open_on, item_at, regroup, regroup_at, joined_at, joined_with, paired_up_to, lowest_from, highest_below}
+use Rattle.matching.specs.Grouping.{Finder, outstanding, open_on, item_at, regroup, regroup_at, joined_at, joined_with, paired_up_to, highest_below, if_few}
 use Rattle.matching.specs.Matching.{partners, partner_of, matched, NoneToPair}
 use Rattle.matching.specs.Folding.{open_reversal, undoes, original_of, folded, NoneToFold}
 
@@ -78,17 +81,16 @@ none_fits find fits F (suc n) xs le i j lt f =
     shut_with find fits F ys n (omega (arith, length_paired find n xs)) o refl j (subst (λ (k : ℕ). fits ys k j) q g) (subst (λ (k : ℕ). outstanding (item_at zs k) ≡ true) q oi))
     (cases_lt i n)
 
-lowest_none : (test : Item → Bool) → test blank ≡ false → (n : ℕ) (xs : List Item) → lowest_from test n xs ≡ None → (k : ℕ) → test (item_at xs k) ≡ true → ⊥
-lowest_none test b n [] e k t = true≢false (sym t ∙ b)
-lowest_none test b n (x ∷ xs) e zero t =
-    let s : Some n ≡ None = sym (cond-true (test x) (Some n) (lowest_from test (n + 1) xs) t) ∙ e in
-    let z : ◌≡◌ {A = ℕ} 0 1 = cc in omega arith
-lowest_none test b n (x ∷ xs) e (suc k) t =
+position_none : (test : Item → Bool) → test blank ≡ false → (xs : List Item) → position test xs ≡ None → (k : ℕ) → test (item_at xs k) ≡ true → ⊥
+position_none test b xs e k t =
     ⊎_elim
-    (λ y. let s : Some n ≡ None = sym (cond-true (test x) (Some n) (lowest_from test (n + 1) xs) y) ∙ e in
+    (λ l. let s : Some (position_or_len test xs) ≡ None = sym (cond-true (nat_lt (position_or_len test xs) (length xs)) _ None (lt-ltb _ _ l)) ∙ e in
     let z : ◌≡◌ {A = ℕ} 0 1 = cc in omega arith)
-    (λ f. lowest_none test b (n + 1) xs (sym (cond-false (test x) (Some n) (lowest_from test (n + 1) xs) f) ∙ e) k t)
-    (cases_Bool (test x))
+    (λ none. ⊎_elim
+    (λ l. true≢false (sym t ∙ fails_before_first test xs k blank (omega arith)))
+    (λ past. true≢false (sym t ∙ ap test (get_or-eq_default xs blank past) ∙ b))
+    (cases_lt k (length xs)))
+    (cases_lt (position_or_len test xs) (length xs))
 
 highest_none : (test : Item → Bool) (n : ℕ) (xs : List Item) → highest_below test n xs ≡ None → (k : ℕ) → k < n → test (item_at xs k) ≡ true → ⊥
 highest_none test zero xs e k lt t = omega arith
@@ -112,7 +114,7 @@ open_out s x h = (and_parts (same_side x.side s) (outstanding x) h).1
 pairing : (permits : Entry → Entry → Bool) → Findable (partner_of permits) (Pairing permits)
 pairing permits =
     record {
-      none = λ xs i j e f. lowest_none (partners (permits (item_at xs i).entry)) refl 0 xs (sym (cond-true (open_on Bank (item_at xs i)) _ None f.0) ∙ e) j f.1;
+      none = λ xs i j e f. position_none (partners (permits (item_at xs i).entry)) refl xs (sym (cond-true (open_on Bank (item_at xs i)) _ None f.0) ∙ e) j f.1;
       open_first = λ xs i j f. open_out Bank (item_at xs i) f.0;
       open_second = λ xs i j f. open_out Book (item_at xs j) (and_parts (open_on Book (item_at xs j)) (permits (item_at xs i).entry (item_at xs j).entry) f.1).0;
       alike = λ xs ys i j a b f. (
@@ -121,9 +123,9 @@ pairing permits =
       );
     }
 
-pub none_to_pair : (permits : Entry → Entry → Bool) (xs ys : List Item) → ys ≡ matched permits xs → NoneToPair permits ys
-none_to_pair permits xs ys e =
-    subst (NoneToPair permits) (sym e) (λ i j li oi oj p.
+pub none_to_pair : (permits : Entry → Entry → Bool) (xs ys : List Item) → ys ≡ if_few xs (matched permits xs) xs → length xs ≤ 8192 → NoneToPair permits ys
+none_to_pair permits xs ys e few =
+    subst (NoneToPair permits) (sym (e ∙ cond-true _ _ _ (le-leb _ _ few))) (λ i j li oi oj p.
     none_fits (partner_of permits) (Pairing permits) (pairing permits) (length xs) xs (omega arith) i j (omega (arith, length_paired (partner_of permits) (length xs) xs)) (oi, and_from _ _ oj p))
 
 -- a reversal and an item before it that it undoes
@@ -143,7 +145,7 @@ undoing =
       );
     }
 
-pub none_to_fold : (xs ys : List Item) → ys ≡ folded xs → NoneToFold ys
-none_to_fold xs ys e =
-    subst NoneToFold (sym e) (λ i j li lj r u.
+pub none_to_fold : (xs ys : List Item) → ys ≡ if_few xs (folded xs) xs → length xs ≤ 8192 → NoneToFold ys
+none_to_fold xs ys e few =
+    subst NoneToFold (sym (e ∙ cond-true _ _ _ (le-leb _ _ few))) (λ i j li lj r u.
     none_fits original_of Undoing undoing (length xs) xs (omega arith) i j (omega (arith, length_paired original_of (length xs) xs)) (lj, r, u))

@@ -8,7 +8,5 @@ use domain::entry::Item;
 pub fn clear(items: &mut [Item])
     ensures { items.new ≡ replicate (length items.old) blank_item }
 {
-    for x in items.iter_mut() {
-        *x = blank();
-    }
+    items.fill(blank());
 }

@@ -1,10 +1,13 @@
-ghost use Rattle.std.specs.Prelude.{◌≡◌, ℕ, ◌<◌, ◌≤◌, length, Some};
-ghost use Rattle.matching.specs.Grouping.{open_on, joined_at, lowest_from, highest_below, if_few};
+ghost use Rattle.std.specs.Prelude.{◌≡◌, ℕ, ◌+◌, ◌^◌, ◌<◌, ◌≤◌, min, length, Some, position, IfSome};
+ghost use Rattle.matching.specs.Grouping.{Finder, FindsBy, open_on, joined_at, highest_below, if_few, Grouped};
 ghost use Rattle.matching.specs.Matching.{partners, partner_of, matched, matches as match_count, NoneToPair};
 ghost use Rattle.matching.specs.Folding.{open_reversal, undoes as reverses, original_of, folded, folds as fold_count, NoneToFold};
 
 use crate::rule::MatchRule;
 use domain::entry::{Entry, Item, Kind, Side};
+
+// The most positions that an item table may have.
+pub const MOST_ITEMS: usize = 8192;
 
 fn is_open(x: &Item, side: Side) -> bool
     ensures { result ≡ open_on side x.now }
@@ -14,13 +17,35 @@ fn is_open(x: &Item, side: Side) -> bool
 
 // Puts two items into a group of their own, which takes the smaller of their numbers.
 fn join(items: &mut [Item], i: usize, j: usize)
-    requires { (i < length items.old) × ((j < length items.old) × (length items.old ≤ 8192)) }
+    requires first { i < length items.old }
+    requires second { j < length items.old }
+    requires fits { min i j + 1 < 2 ^ 16 }
     ensures { items.new ≡ joined_at items.old i j }
 {
-    let lower = if i < j { i } else { j };
-    let group = (lower + 1) as u16;
+    let group = (i.min(j) + 1) as u16;
     items[i].group = group;
     items[j].group = group;
+}
+
+// Lets each position, in order, form a group with the one that `choose` finds for it, if any. Answers how many groups it formed.
+// A slice that is longer than a table may be is left alone.
+fn join_each<F: Fn(&[Item], usize) -> Option<usize>>(items: &mut [Item], choose: F) -> usize
+    requires callable { (xs : _) (i : ℕ) → i < length xs.now → F.pre choose xs i }
+    requires within { (xs : _) (i j : ℕ) → i < length xs.now → F.post choose xs i (Some j) → j < length xs.now }
+    ensures { (find : Finder) → FindsBy find (F.post choose) → Grouped find items.old items.new result }
+{
+    if items.len() > MOST_ITEMS {
+        return 0;
+    }
+    let mut groups = 0;
+    // By position, since each group changes the items at two positions of the slice that the next choice reads.
+    for i in 0..items.len() {
+        if let Some(j) = choose(items, i) {
+            join(items, i, j);
+            groups += 1;
+        }
+    }
+    groups
 }
 
 // Whether this is an outstanding book item that the rule lets pair with a bank entry.
@@ -32,14 +57,9 @@ fn is_partner<R: MatchRule>(x: &Item, bank: &Entry, rule: &R) -> bool
 
 // The lowest position of a partner for a bank entry.
 fn lowest_partner<R: MatchRule>(items: &[Item], bank: &Entry, rule: &R) -> Option<usize>
-    ensures { result ≡ lowest_from (partners (R.MatchRule.permits rule.now bank.now)) 0 items.now }
+    ensures { result ≡ position (partners (R.MatchRule.permits rule.now bank.now)) items.now }
 {
-    for (i, x) in items.iter().enumerate() {
-        if is_partner(x, bank, rule) {
-            return Some(i);
-        }
-    }
-    None
+    items.iter().position(|x| is_partner(x, bank, rule))
 }
 
 // The position that is paired with position `i`, if that has an outstanding bank item.
@@ -47,12 +67,11 @@ fn partner_of<R: MatchRule>(items: &[Item], i: usize, rule: &R) -> Option<usize>
     requires { i < length items.now }
     ensures { result ≡ partner_of (R.MatchRule.permits rule.now) items.now i }
 {
-    let x = items[i];
-    if is_open(&x, Side::Bank) {
-        lowest_partner(items, &x.entry, rule)
-    } else {
-        None
+    let x = &items[i];
+    if !is_open(x, Side::Bank) {
+        return None;
     }
+    lowest_partner(items, &x.entry, rule)
 }
 
 // Pairs each outstanding bank item, by number, with the lowest-numbered outstanding book item that the rule permits, if any.
@@ -62,66 +81,45 @@ pub fn match_all<R: MatchRule>(items: &mut [Item], rule: &R) -> usize
     ensures answer { result ≡ if_few items.old (match_count (R.MatchRule.permits rule.now) items.old) 0 }
     ensures settled { length items.old ≤ 8192 → NoneToPair (R.MatchRule.permits rule.now) items.new }
 {
-    if items.len() > 8192 {
-        return 0;
-    }
-    let mut pairs = 0;
-    for i in 0..items.len() {
-        if let Some(j) = partner_of(items, i, rule) {
-            join(items, i, j);
-            pairs += 1;
-        }
-    }
-    pairs
+    join_each(items, |items, i| partner_of(items, i, rule))
 }
 
 fn is_open_reversal(x: &Item) -> bool
     ensures { result ≡ open_reversal x.now }
 {
-    match x.entry.kind {
-        Kind::Ordinary => false,
-        Kind::Reversal => x.group == 0,
-    }
+    x.group == 0 && x.entry.kind == Kind::Reversal
 }
 
 // Whether this is an outstanding ordinary item that the reversal undoes.
 fn undoes(reversal: &Item, x: &Item) -> bool
     ensures { result ≡ reverses reversal.now x.now }
 {
-    if let Kind::Reversal = x.entry.kind {
-        return false;
-    }
     let key = reversal.entry.key;
     is_open(x, reversal.side)
+        && x.entry.kind == Kind::Ordinary
         && !key.is_blank()
         && key == x.entry.key
         && reversal.entry.amount.minor() == -x.entry.amount.minor()
 }
 
-// The highest position below `end` of an item that the reversal undoes.
-fn highest_undone(items: &[Item], reversal: &Item, end: usize) -> Option<usize>
-    requires { end ≤ length items.now }
-    ensures { result ≡ highest_below (reverses reversal.now) end items.now }
+// The highest position of an item that the reversal undoes.
+fn highest_undone(items: &[Item], reversal: &Item) -> Option<usize>
+    ensures { result ≡ highest_below (reverses reversal.now) (length items.now) items.now }
 {
-    for i in (0..end).rev() {
-        if undoes(reversal, &items[i]) {
-            return Some(i);
-        }
-    }
-    None
+    items.iter().rposition(|x| undoes(reversal, x))
 }
 
 // The position that forms a group with position `i`, if that has an outstanding reversal.
 fn original_of(items: &[Item], i: usize) -> Option<usize>
     requires { i < length items.now }
-    ensures { result ≡ original_of items.now i }
+    ensures answer { result ≡ original_of items.now i }
+    ensures within { IfSome result (λ j. j < length items.now) }
 {
-    let x = items[i];
-    if is_open_reversal(&x) {
-        highest_undone(items, &x, i)
-    } else {
-        None
+    let x = &items[i];
+    if !is_open_reversal(x) {
+        return None;
     }
+    highest_undone(&items[..i], x)
 }
 
 // Folds: each outstanding reversal, by number, forms a group with the item that it undoes, if any: the highest-numbered outstanding
@@ -132,15 +130,5 @@ pub fn fold_all(items: &mut [Item]) -> usize
     ensures answer { result ≡ if_few items.old (fold_count items.old) 0 }
     ensures settled { length items.old ≤ 8192 → NoneToFold items.new }
 {
-    if items.len() > 8192 {
-        return 0;
-    }
-    let mut groups = 0;
-    for i in 0..items.len() {
-        if let Some(j) = original_of(items, i) {
-            join(items, i, j);
-            groups += 1;
-        }
-    }
-    groups
+    join_each(items, |items, i| original_of(items, i))
 }

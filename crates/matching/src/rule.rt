@@ -1,6 +1,7 @@
 ghost use Rattle.std.specs.Prelude.{◌≡◌, Bool, true};
 ghost use Rattle.std.specs.Option.{ok_or};
 ghost use Rattle.domain.specs.declared.entry.Entry.{Entry};
+ghost use Rattle.domain.specs.declared.refusal.Refusal.TheVariants.{BadAmount};
 ghost use Rattle.matching.specs.Rules.{by_reference, by_days as within_days, as_by_days};
 ghost use Rattle.std.proofs.Common.{rules};
 
@@ -22,7 +23,7 @@ pub trait MatchRule {
 
 // Permits entries with the same key, not blank, and the same amount.
 #[derive(Clone, Copy)]
-pub struct ByReference {}
+pub struct ByReference;
 
 impl MatchRule for ByReference {
     ghost permits = { λ _ a b. by_reference a b };
@@ -30,9 +31,7 @@ impl MatchRule for ByReference {
     ghost equal = { Prim.search rules };
 
     fn may_pair(&self, bank: &Entry, book: &Entry) -> bool {
-        !bank.key.is_blank()
-            && bank.key == book.key
-            && bank.amount.minor() == book.amount.minor()
+        !bank.key.is_blank() && bank.key == book.key && bank.amount == book.amount
     }
 }
 
@@ -42,16 +41,17 @@ pub struct ByDays {
     width: u8,
 }
 
-impl ByDays {
-    // The rule for a width from 0 to 31.
-    pub fn new(width: u8) -> Result<ByDays, Refusal>
-        ensures { result ≡ ok_or (as_by_days width) Refusal.BadAmount }
-    {
-        if width <= 31 {
-            Ok(ByDays { width })
-        } else {
-            Err(Refusal::BadAmount)
+// The rule for a width from 0 to 31.
+impl TryFrom<u8> for ByDays {
+    type Error = Refusal;
+
+    ghost try_from_gives = { λ width made. made ≡ ok_or (as_by_days width) BadAmount };
+
+    fn try_from(width: u8) -> Result<ByDays, Refusal> {
+        if width > 31 {
+            return Err(Refusal::BadAmount);
         }
+        Ok(ByDays { width })
     }
 }
 
@@ -62,6 +62,6 @@ impl MatchRule for ByDays {
 
     fn may_pair(&self, bank: &Entry, book: &Entry) -> bool {
         let apart = bank.value_day.number().abs_diff(book.value_day.number());
-        apart <= self.width as u16 && bank.amount.minor() == book.amount.minor()
+        apart <= u16::from(self.width) && bank.amount == book.amount
     }
 }
