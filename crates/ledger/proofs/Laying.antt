@@ -1,47 +1,36 @@
 -- Entries laid over a table one at a time, or all at once; and what a source means when nothing remains.
-use Rattle.std.proofs.Common.{◌≡◌, ℕ, ◌+◌, ◌<◌, ◌≤◌, List, [], ◌∷◌, length, take, set, None, sym, refl, ap, ◌∙◌, append_assoc, add-zero, arith, length-set, take-append-drop}
-use Rattle.std.proofs.lemmas.List.{take_more_set, drop-set-lt}
+use Rattle.std.proofs.Common.{◌≡◌, ℕ, ◌+◌, ◌<◌, ◌≤◌, List, [], ◌∷◌, ◌++◌, map, length, take, set, Some, None, sym, refl, ap, ◌∙◌, append_assoc, append-nil, arith}
+use Rattle.std.proofs.lemmas.List.{take_more_set, take_all}
 use Rattle.domain.specs.declared.entry.Side.{Side}
 use Rattle.domain.specs.declared.entry.Entry.{Entry}
 use Rattle.domain.specs.declared.entry.Item.{Item}
-use Rattle.std.proofs.lemmas.Int.{ints}
-use Rattle.source.specs.Statement.{Statement, Lawful, total, first, moved, rest}
+use Rattle.source.specs.Statement.{Statement, first, moved, rest}
 use Rattle.ledger.specs.Intakes.{outstanding_item}
-use Rattle.ledger.specs.Takings.{laid, spent}
 
--- the table with entries put at a position and behind it
-abbrev pub placed : Side → List Item → ℕ → List Entry → List Item
-placed side t at [] = t
-placed side t at (e ∷ es) = placed side (set t at (outstanding_item side e)) (at + 1) es
+-- a table of which the first positions hold what was laid, with what remains to be laid behind them
+abbrev pub with_rest : Side → List Item → ℕ → List Entry → List Item
+with_rest side ys n es = take n ys ++ map (outstanding_item side) es
 
-placed_laid : (side : Side) (t : List Item) (at : ℕ) (es : List Entry) → at + length es ≤ length t → placed side t at es ≡ laid side t at es
-placed_laid side t at [] h = rw add-zero (sym (take-append-drop at t))
-placed_laid side t at (e ∷ es) h =
-    let x = outstanding_item side e in
-    let k : at + 1 + length es ≤ length (set t at x) = simp length-set (omega arith) in
-    let m : at < length t = omega arith in
-    let n : at < at + 1 + length es = omega arith in
-    let d : at + 1 + length es ≡ at + length (e ∷ es) = omega arith in
-    placed_laid side (set t at x) (at + 1) es k
-    ∙ rw (take_more_set t at x m, drop-set-lt (at + 1 + length es) t at x n, d) (append_assoc (take at t) (x ∷ []) _)
+-- one entry more
+pub laid_more : (side : Side) (ys zs : List Item) (n : ℕ) (e : Entry) (es fs : List Entry) → n < length ys → es ≡ e ∷ fs → zs ≡ set ys n (outstanding_item side e) → with_rest side zs (n + 1) fs ≡ with_rest side ys n es
+laid_more side ys zs n e es fs lt p q =
+    ap (λ (l : List Item). with_rest side l (n + 1) fs) q
+    ∙ rw (take_more_set ys n (outstanding_item side e) lt) (append_assoc (take n ys) (outstanding_item side e ∷ []) _)
+    ∙ ap (with_rest side ys n) (sym p)
+
+-- all positions laid
+pub laid_all : (side : Side) (ys : List Item) (n : ℕ) (es : List Entry) → n + length es ≡ length ys → length ys ≤ n → with_rest side ys n es ≡ ys
+laid_all side ys n [] a b = append-nil (take n ys) ∙ take_all n ys b
+laid_all side ys n (e ∷ es) a b = absurd (omega arith)
+
+-- the entry that was fetched stood first
+pub fetched : (s t : Statement) (e : Entry) → Some e ≡ first s.remaining → t ≡ moved s → s.remaining ≡ e ∷ t.remaining
+fetched s t e f m = headed s.remaining f ∙ ap (λ (l : List Entry). e ∷ l) (ap (λ (u : Statement). u.remaining) (sym m))
+  where
+    headed : (es : List Entry) → Some e ≡ first es → es ≡ e ∷ rest es
+    headed [] f = absurd (let z : ◌≡◌ {A = ℕ} 0 1 = cc in omega arith)
+    headed (d ∷ es) f = let q : e ≡ d = cc in ap (λ x. x ∷ es) (sym q)
 
 pub none_left : (es : List Entry) → None ≡ first es → es ≡ []
 none_left [] h = refl
 none_left (e ∷ es) h = absurd (let z : ◌≡◌ {A = ℕ} 0 1 = cc in omega arith)
-
--- by the law, what is left with no entries has reached its closing
-is_spent : (s : Statement) → s.remaining ≡ [] → Lawful s → s ≡ spent s
-is_spent s e l =
-    let t = ap total e in
-    let r : s.reached ≡ s.closing.minor = omega (arith, ints, l.balanced) in
-    λ i. record { number = s.number; opening_day = s.opening_day; closing_day = s.closing_day; reached = r i; remaining = e i; closing = s.closing }
-
--- after a source answered none, where r is what it meant at first
-pub all_spent : (r s t : Statement) → s.remaining ≡ [] → t ≡ moved s → Lawful t → spent s ≡ spent r → t ≡ spent r
-all_spent r s t e m l k =
-    let n : t.remaining ≡ [] = ap (λ (u : Statement). u.remaining) m ∙ ap rest e in
-    is_spent t n l ∙ ap spent m ∙ k
-
-pub all_laid : (side : Side) (t u : List Item) (from at : ℕ) (es fs : List Entry) → fs ≡ [] → placed side u at fs ≡ placed side t from es → from + length es ≤ length t
-    → u ≡ laid side t from es
-all_laid side t u from at es fs none e fit = ap (placed side u at) (sym none) ∙ e ∙ placed_laid side t from es fit

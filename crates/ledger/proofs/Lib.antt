@@ -1,3 +1,2 @@
-pub mod Denied
-pub mod Parts
+pub mod Answering
 pub mod Laying

@@ -2,6 +2,7 @@
 use Rattle.std.specs.Prelude.{ℕ, Bool, cond, ◌||◌, Some, None, Ok, Err, Option, Result, ◌==◌, nat_lt}
 use Rattle.domain.specs.declared.refusal.Refusal.{Refusal}
 use Rattle.domain.specs.declared.refusal.Refusal.TheVariants.{BadTable}
+use Rattle.ledger.specs.declared.denied.Denied.{Denied}
 
 -- refused for this where a test holds, else as the rest says: tests stand in the order of their numbers, so the smallest is given
 abbrev pub refused_if : Bool → Refusal → Option Refusal → Option Refusal
@@ -20,9 +21,9 @@ answered None x = Ok x
 answered (Some why) x = Err why
 
 -- what a call answers that was given a value, which it gives back where it refuses
-abbrev pub handed : {X Y : Type 0} → Option Refusal → X → Y → Result X (Y × Refusal)
+abbrev pub handed : {X Y : Type 0} → Option Refusal → X → Y → Result X (Denied Y)
 handed None x y = Ok x
-handed (Some why) x y = Err (y, why)
+handed (Some why) x y = Err (record { given = y; why = why })
 
 -- what a call leaves: the new, or where it refuses the old
 abbrev pub unless : {X : Type 0} → Option Refusal → X → X → X

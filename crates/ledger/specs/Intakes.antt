@@ -24,7 +24,8 @@ begin_denied l n side number day opening =
 
 -- the balance reached is the opening, and no position is filled yet
 abbrev pub begun : Ledger → Side → ℕ → Day → Amount → Intake
-begun l side number day opening = record { ledger = l; side = side; number = number; closing_day = day; reached = opening.minor; filled = l.used }
+begun l side number day opening =
+    record { ledger = l; heading = record { side = side; number = number; closing_day = day }; reached = opening.minor; filled = l.used }
 
 -- the table lacks positions that the intake filled, or (as no begin makes it) the intake has fewer than its ledger uses
 abbrev pub bad_intake : ℕ → Intake → Bool
@@ -46,17 +47,16 @@ outstanding_item side e = record { entry = e; side = side; group = 0 }
 
 -- The total stays at the end of its range where it would leave it; 4,096 amounts never lead there.
 abbrev pub entered : Intake → Entry → Intake
-entered i e =
-    record { ledger = i.ledger; side = i.side; number = i.number; closing_day = i.closing_day; reached = saturate_to_bits 63 (i.reached +ℤ e.amount.minor); filled = i.filled + 1 }
+entered i e = record i { reached = saturate_to_bits 63 (i.reached +ℤ e.amount.minor); filled = i.filled + 1 }
 
 abbrev pub entered_table : Intake → Entry → List Item → List Item
-entered_table i e t = slice_set t i.filled (outstanding_item i.side e)
+entered_table i e t = slice_set t i.filled (outstanding_item i.heading.side e)
 
 abbrev pub post_denied : Intake → ℕ → Amount → Option Refusal
 post_denied i n closing = refused_if (bad_intake n i) BadTable (refused_if (not (same_int closing.minor i.reached)) PostingUnbalanced None)
 
 abbrev pub posted_ledger : Intake → Amount → Ledger
-posted_ledger i closing = settled i.ledger i.side i.number i.closing_day closing i.filled
+posted_ledger i closing = settled i.ledger i.heading.side i.heading.number i.heading.closing_day closing i.filled
 
 abbrev pub withdraw_denied : Intake → ℕ → Option Refusal
 withdraw_denied i n = refused_if (bad_intake n i) BadTable None

@@ -17,13 +17,8 @@ impl Ledger {
         ensures answer { result ≡ answered (table_denied (length table.old) self.now.used) (fold_count (live self.now table.old)) }
         ensures table { table.new ≡ unless (table_denied (length table.old) self.now.used) (on_live folded self.now table.old) table.old }
     {
-        match self.table_denied(table.len()) {
-            Some(why) => Err(why),
-            None => {
-                let used = self.used;
-                Ok(fold_all(&mut table[0..used]))
-            }
-        }
+        self.check_table(table.len())?;
+        Ok(fold_all(&mut table[..self.used]))
     }
 
     // Matches the items in use: each outstanding bank item, by number, is paired with the lowest-numbered outstanding book item that
@@ -32,12 +27,7 @@ impl Ledger {
         ensures answer { result ≡ answered (table_denied (length table.old) self.now.used) (match_count (R.MatchRule.permits rule.now) (live self.now table.old)) }
         ensures table { table.new ≡ unless (table_denied (length table.old) self.now.used) (on_live (matched (R.MatchRule.permits rule.now)) self.now table.old) table.old }
     {
-        match self.table_denied(table.len()) {
-            Some(why) => Err(why),
-            None => {
-                let used = self.used;
-                Ok(match_all(&mut table[0..used], rule))
-            }
-        }
+        self.check_table(table.len())?;
+        Ok(match_all(&mut table[..self.used], rule))
     }
 }

@@ -1,23 +1,26 @@
-ghost use Rattle.std.specs.Prelude.{◌≡◌, ◌<◌, ◌≤◌, false, length, None};
+ghost use Rattle.std.specs.Prelude.{◌≡◌, ◌<◌, ◌≤◌, length, OnOk};
 ghost use Rattle.ledger.specs.Denials.{answered, handed, unless};
-ghost use Rattle.ledger.specs.Intakes.{begin_denied, begun, enter_denied, entered, entered_table, post_denied, posted_ledger, withdraw_denied, withdrawn_table, bad_intake};
+ghost use Rattle.ledger.specs.Intakes.{begin_denied, begun, enter_denied, entered, entered_table, post_denied, posted_ledger, withdraw_denied, withdrawn_table};
 
+use crate::denied::Denied;
 use crate::ledger::Ledger;
-use crate::opening::is_bad_table;
+use crate::record::Heading;
+use crate::table::{check_table, outstanding};
 use domain::amount::Amount;
 use domain::day::Day;
 use domain::entry::{Entry, Item, Side};
 use domain::refusal::Refusal;
 use matching::clearing::clear;
 
+// The most entries that an intake may have.
+const MOST_ENTRIES: usize = 4096;
+
 // A ledger with an open intake, which takes only entries, a posting or a withdrawal.
 // It has no `Drop`: an intake that was begun is posted or withdrawn, and the check refuses to let one go.
 pub struct Intake {
     // The ledger as it was before.
     pub(crate) ledger: Ledger,
-    pub(crate) side: Side,
-    pub(crate) number: u32,
-    pub(crate) closing_day: Day,
+    pub(crate) heading: Heading,
     // The opening plus the amounts entered.
     pub(crate) reached: i64,
     // How many positions of the table are in use, with those entered.
@@ -25,41 +28,29 @@ pub struct Intake {
 }
 
 impl Ledger {
-    fn begin_denied(
-        &self,
-        n: usize,
-        side: Side,
-        number: u32,
-        closing_day: Day,
-        opening: Amount,
-    ) -> Option<Refusal>
-        ensures { result ≡ begin_denied self.now n side number closing_day opening }
+    fn check_begin(&self, n: usize, heading: &Heading, opening: Amount) -> Result<(), Refusal>
+        ensures { result ≡ answered (begin_denied self.now n heading.now.side heading.now.number heading.now.closing_day opening) tt }
     {
-        if number < 1 || 99_999 < number {
-            return Some(Refusal::BadNumber);
+        if !(1..=99_999).contains(&heading.number) {
+            return Err(Refusal::BadNumber);
         }
-        if is_bad_table(n, self.used) {
-            return Some(Refusal::BadTable);
-        }
-        self.record_of(side)
-            .follow_denied(number, opening.minor(), closing_day)
+        self.check_table(n)?;
+        self.record_of(heading.side)
+            .check_follows(heading, opening.minor())
     }
 
-    fn start(self, side: Side, number: u32, closing_day: Day, opening: Amount) -> Intake
-        ensures { result ≡ begun self side number closing_day opening }
+    fn start(self, heading: Heading, opening: Amount) -> Intake
+        ensures { result ≡ begun self heading.side heading.number heading.closing_day opening }
     {
-        let filled = self.used;
         Intake {
+            filled: self.used,
             ledger: self,
-            side,
-            number,
-            closing_day,
+            heading,
             reached: opening.minor(),
-            filled,
         }
     }
 
-    // Begins an intake of a statement, which must follow the side's last one.
+    // Begins an intake of a statement, which must follow the side's last one. What is given is listed here, as the rules list it.
     pub fn begin(
         self,
         table: &[Item],
@@ -67,40 +58,48 @@ impl Ledger {
         number: u32,
         closing_day: Day,
         opening: Amount,
-    ) -> Result<Intake, (Ledger, Refusal)>
+    ) -> Result<Intake, Denied<Ledger>>
         ensures { result ≡ handed (begin_denied self (length table.now) side number closing_day opening) (begun self side number closing_day opening) self }
     {
-        match self.begin_denied(table.len(), side, number, closing_day, opening) {
-            Some(why) => Err((self, why)),
-            None => Ok(self.start(side, number, closing_day, opening)),
+        let heading = Heading {
+            side,
+            number,
+            closing_day,
+        };
+        if let Err(why) = self.check_begin(table.len(), &heading, opening) {
+            return Err(Denied { given: self, why });
         }
+        Ok(self.start(heading, opening))
     }
 }
 
 impl Intake {
-    // Whether a table of `n` positions does not serve.
-    fn is_bad(&self, n: usize) -> bool
-        ensures is { result ≡ bad_intake n self.now }
-        ensures filled { result ≡ false → self.now.filled ≤ n }
-        ensures used { result ≡ false → self.now.ledger.used ≤ self.now.filled }
+    // Refuses a table of `n` positions that lacks some that are filled, and (as no begin makes it) an intake with fewer filled than
+    // its ledger uses.
+    fn check_table(&self, n: usize) -> Result<(), Refusal>
+        ensures why { result ≡ answered (withdraw_denied self.now n) tt }
+        ensures filled { OnOk result (self.now.filled ≤ n) }
+        ensures used { OnOk result (self.now.ledger.used ≤ self.now.filled) }
     {
-        is_bad_table(n, self.filled) || self.filled < self.ledger.used
+        check_table(n, self.filled)?;
+        if self.filled < self.ledger.used {
+            return Err(Refusal::BadTable);
+        }
+        Ok(())
     }
 
-    fn enter_denied(&self, n: usize) -> Option<Refusal>
-        ensures why { result ≡ enter_denied self.now n }
-        ensures free { result ≡ None → self.now.filled < n }
+    fn check_enter(&self, n: usize) -> Result<(), Refusal>
+        ensures why { result ≡ answered (enter_denied self.now n) tt }
+        ensures free { OnOk result (self.now.filled < n) }
     {
-        if self.filled.saturating_sub(self.ledger.used) >= 4096 {
-            return Some(Refusal::TooMuch);
+        if self.filled.saturating_sub(self.ledger.used) >= MOST_ENTRIES {
+            return Err(Refusal::TooMuch);
         }
-        if self.is_bad(n) {
-            return Some(Refusal::BadTable);
-        }
+        self.check_table(n)?;
         if n <= self.filled {
-            return Some(Refusal::NoRoom);
+            return Err(Refusal::NoRoom);
         }
-        None
+        Ok(())
     }
 
     // Adds one entry, outstanding, at the next position.
@@ -109,85 +108,55 @@ impl Intake {
         ensures intake { self.new ≡ unless (enter_denied self.old (length table.old)) (entered self.old entry) self.old }
         ensures table { table.new ≡ unless (enter_denied self.old (length table.old)) (entered_table self.old entry table.old) table.old }
     {
-        match self.enter_denied(table.len()) {
-            Some(why) => Err(why),
-            None => {
-                table[self.filled] = Item {
-                    entry,
-                    side: self.side,
-                    group: 0,
-                };
-                self.filled += 1;
-                // From an amount, 4,096 amounts never lead to the end of the range.
-                self.reached = self.reached.saturating_add(entry.amount.minor());
-                Ok(())
-            }
-        }
+        self.check_enter(table.len())?;
+        table[self.filled] = outstanding(entry, self.heading.side);
+        self.filled += 1;
+        // From an amount, 4,096 amounts never lead to the end of the range.
+        self.reached = self.reached.saturating_add(entry.amount.minor());
+        Ok(())
     }
 
-    fn post_denied(&self, n: usize, closing: Amount) -> Option<Refusal>
-        ensures { result ≡ post_denied self.now n closing }
+    fn check_post(&self, n: usize, closing: Amount) -> Result<(), Refusal>
+        ensures { result ≡ answered (post_denied self.now n closing) tt }
     {
-        if self.is_bad(n) {
-            return Some(Refusal::BadTable);
-        }
+        self.check_table(n)?;
         if closing.minor() != self.reached {
-            return Some(Refusal::PostingUnbalanced);
+            return Err(Refusal::PostingUnbalanced);
         }
-        None
+        Ok(())
     }
 
     // Posts the statement, whose closing must be the opening plus the amounts entered.
-    pub fn post(self, table: &[Item], closing: Amount) -> Result<Ledger, (Intake, Refusal)>
+    pub fn post(self, table: &[Item], closing: Amount) -> Result<Ledger, Denied<Intake>>
         ensures { result ≡ handed (post_denied self (length table.now) closing) (posted_ledger self closing) self }
     {
-        match self.post_denied(table.len(), closing) {
-            Some(why) => Err((self, why)),
-            None => {
-                let Intake {
-                    ledger,
-                    side,
-                    number,
-                    closing_day,
-                    reached: _,
-                    filled,
-                } = self;
-                Ok(ledger.settle(side, number, closing_day, closing, filled))
-            }
+        if let Err(why) = self.check_post(table.len(), closing) {
+            return Err(Denied { given: self, why });
         }
-    }
-
-    fn withdraw_denied(&self, n: usize) -> Option<Refusal>
-        ensures why { result ≡ withdraw_denied self.now n }
-        ensures filled { result ≡ None → self.now.filled ≤ n }
-        ensures used { result ≡ None → self.now.ledger.used ≤ self.now.filled }
-    {
-        if self.is_bad(n) {
-            return Some(Refusal::BadTable);
-        }
-        None
+        let Intake {
+            ledger,
+            heading,
+            reached: _,
+            filled,
+        } = self;
+        Ok(ledger.settle(heading, closing, filled))
     }
 
     // Makes the positions filled since begin blank, and gives back the ledger as it was before.
-    pub fn withdraw(self, table: &mut [Item]) -> Result<Ledger, (Intake, Refusal)>
+    pub fn withdraw(self, table: &mut [Item]) -> Result<Ledger, Denied<Intake>>
         ensures answer { result ≡ handed (withdraw_denied self (length table.old)) self.ledger self }
         ensures table { table.new ≡ unless (withdraw_denied self (length table.old)) (withdrawn_table self table.old) table.old }
     {
-        match self.withdraw_denied(table.len()) {
-            Some(why) => Err((self, why)),
-            None => {
-                let Intake {
-                    ledger,
-                    side: _,
-                    number: _,
-                    closing_day: _,
-                    reached: _,
-                    filled,
-                } = self;
-                let used = ledger.used;
-                clear(&mut table[used..filled]);
-                Ok(ledger)
-            }
+        if let Err(why) = self.check_table(table.len()) {
+            return Err(Denied { given: self, why });
         }
+        let Intake {
+            ledger,
+            heading: _,
+            reached: _,
+            filled,
+        } = self;
+        clear(&mut table[ledger.used..filled]);
+        Ok(ledger)
     }
 }

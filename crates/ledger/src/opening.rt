@@ -1,10 +1,10 @@
-ghost use Rattle.std.specs.Prelude.{◌≡◌, ◌≤◌, length, replicate, None};
+ghost use Rattle.std.specs.Prelude.{◌≡◌, length, replicate};
 ghost use Rattle.domain.specs.Blanks.{blank};
-ghost use Rattle.ledger.specs.Denials.{bad_table, table_denied};
 ghost use Rattle.ledger.specs.Records.{new_record, opened, if_ok};
 
 use crate::ledger::Ledger;
 use crate::record::SideRecord;
+use crate::table::check_table;
 use domain::amount::Amount;
 use domain::currency::Currency;
 use domain::day::Day;
@@ -12,27 +12,6 @@ use domain::digits::Digits;
 use domain::entry::Item;
 use domain::refusal::Refusal;
 use matching::clearing::clear;
-
-// Whether a table of `n` positions does not serve where `used` are in use.
-pub(crate) fn is_bad_table(n: usize, used: usize) -> bool
-    ensures { result ≡ bad_table n used }
-{
-    n == 0 || n > 8192 || n < used
-}
-
-impl Ledger {
-    // Why the ledger refuses a table of `n` positions, if it does.
-    pub fn table_denied(&self, n: usize) -> Option<Refusal>
-        ensures why { result ≡ table_denied n self.now.used }
-        ensures room { result ≡ None → self.now.used ≤ n }
-        ensures few { result ≡ None → n ≤ 8192 }
-    {
-        if is_bad_table(n, self.used) {
-            return Some(Refusal::BadTable);
-        }
-        None
-    }
-}
 
 impl SideRecord {
     // A side before its first statement.
@@ -63,9 +42,7 @@ impl Ledger {
     {
         let digits = Digits::try_from(digits)?;
         let currency = Currency::try_from(currency)?;
-        if is_bad_table(table.len(), 0) {
-            return Err(Refusal::BadTable);
-        }
+        check_table(table.len(), 0)?;
         clear(table);
         Ok(Ledger {
             currency,

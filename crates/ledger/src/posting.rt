@@ -1,28 +1,40 @@
 ghost use Rattle.std.specs.Prelude.{◌≡◌};
-ghost use Rattle.ledger.specs.Records.{follow_denied, side_of, settled};
+ghost use Rattle.ledger.specs.Denials.{answered};
+ghost use Rattle.ledger.specs.Records.{follow_denied, posted, side_of, settled};
 
 use crate::ledger::Ledger;
-use crate::record::SideRecord;
+use crate::record::{Heading, SideRecord};
 use domain::amount::Amount;
-use domain::day::Day;
 use domain::entry::Side;
 use domain::refusal::Refusal;
 
 impl SideRecord {
-    // Why a statement does not follow the side's last one.
-    pub(crate) fn follow_denied(self, number: u32, opening: i64, day: Day) -> Option<Refusal>
-        ensures { result ≡ follow_denied self number opening day.number }
+    // Refuses a statement that does not follow the side's last one.
+    pub(crate) fn check_follows(self, heading: &Heading, opening: i64) -> Result<(), Refusal>
+        ensures { result ≡ answered (follow_denied self heading.now.number opening heading.now.closing_day.number) tt }
     {
-        if number == self.number {
-            return Some(Refusal::NumberRepeated);
+        if heading.number == self.number {
+            return Err(Refusal::NumberRepeated);
         }
         if opening != self.closing.minor() {
-            return Some(Refusal::WrongOpening);
+            return Err(Refusal::WrongOpening);
         }
-        if day < self.last_day {
-            return Some(Refusal::DayBefore);
+        if heading.closing_day < self.last_day {
+            return Err(Refusal::DayBefore);
         }
-        None
+        Ok(())
+    }
+
+    // The record after a statement.
+    fn after(self, heading: Heading, closing: Amount) -> SideRecord
+        ensures { result ≡ posted self heading.number heading.closing_day closing }
+    {
+        SideRecord {
+            opening: self.opening,
+            closing,
+            number: heading.number,
+            last_day: heading.closing_day,
+        }
     }
 }
 
@@ -38,28 +50,14 @@ impl Ledger {
     }
 
     // The ledger after a statement: the record of its own side changes, and the other does not.
-    pub(crate) fn settle(
-        mut self,
-        side: Side,
-        number: u32,
-        closing_day: Day,
-        closing: Amount,
-        used: usize,
-    ) -> Ledger
-        ensures { result ≡ settled self side number closing_day closing used }
+    pub(crate) fn settle(mut self, heading: Heading, closing: Amount, used: usize) -> Ledger
+        ensures { result ≡ settled self heading.side heading.number heading.closing_day closing used }
     {
+        let record = self.record_of(heading.side).after(heading, closing);
         self.used = used;
-        match side {
-            Side::Bank => {
-                self.bank.closing = closing;
-                self.bank.number = number;
-                self.bank.last_day = closing_day;
-            }
-            Side::Book => {
-                self.book.closing = closing;
-                self.book.number = number;
-                self.book.last_day = closing_day;
-            }
+        match heading.side {
+            Side::Bank => self.bank = record,
+            Side::Book => self.book = record,
         }
         self
     }

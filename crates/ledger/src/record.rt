@@ -2,6 +2,15 @@ ghost use Rattle.std.specs.Prelude.{◌≡◌};
 
 use domain::amount::Amount;
 use domain::day::Day;
+use domain::entry::Side;
+
+// What a statement is taken in by: its side, its number and its closing day.
+#[derive(Clone, Copy)]
+pub(crate) struct Heading {
+    pub(crate) side: Side,
+    pub(crate) number: u32,
+    pub(crate) closing_day: Day,
+}
 
 // What the ledger keeps of one side.
 #[derive(Clone, Copy)]

@@ -1,17 +1,37 @@
-use Rattle.std.proofs.Common.{◌≡◌, [], length, ap, arith}
-use Rattle.ledger.proofs.Laying.{none_left, all_laid, all_spent}
+use Rattle.std.proofs.Common.{◌≡◌, ◌+◌, ◌<◌, length, set, sym, ap, ◌∙◌, arith}
+use Rattle.domain.specs.declared.entry.Item.{Item}
+use Rattle.domain.specs.declared.entry.Side.{Side}
+use Rattle.ledger.specs.Intakes.{outstanding_item}
+use Rattle.ledger.specs.Takings.{spent}
+use Rattle.ledger.proofs.Laying.{fetched, laid_all, laid_more, none_left}
 use Rattle.ledger.proofs.taking.lay.Goals as goal
+use Rattle.ledger.proofs.taking.lay.Goals.{in-Some, in_default}
 
-pub returns : goal.returns
-returns g c =
+pub loop-position-preserved : goal.loop-position-preserved
+loop-position-preserved g c =
     let s = g.S.Source in
-    let told = c.in_default.ensures in
-    let gone : (s.meaning c.loop-entry.source).remaining ≡ [] = none_left _ told.first in
-    let long : length (s.meaning c.loop-entry.source).remaining ≡ 0 = ap length gone in
-    record {
-      table = all_laid s.belongs c.args.table.now c.loop-entry.table c.args.from c.loop-entry.at (s.meaning c.args.source.now).remaining _ gone c.loop-entry.invariant.2 c.requires.1;
-      answer = omega (arith, c.loop-entry.invariant.1);
-      ready = told.again;
-      source =
-          all_spent (s.meaning c.args.source.now) (s.meaning c.loop-entry.source) (s.meaning c.next.new.self) gone told.moves (g.met.S.Source.lawful c.next.new.self told.again) c.loop-entry.invariant.3;
-    }
+    let ys = c.loop-position.positions in
+    let n = c.loop-position.position-index in
+    let before = s.meaning c.loop-position.source in
+    let after = s.meaning c.next.new.self in
+    let within : n < length ys = omega arith in
+    elim c.match-next.branch [
+      | in-Some w ↦
+          let e = w.in-Some.entry in
+          let split = fetched before after e w.in-Some.ensures.first w.in-Some.ensures.moves in
+          let long : length before.remaining ≡ length after.remaining + 1 = ap length split ∙ omega arith in
+          let laid = w.positions-is ∙ ap (λ (x : Item). set ys n x) (w.outstanding.ensures ∙ ap (λ (side : Side). outstanding_item side e) c.which-side.ensures) in
+          record {
+            ready = w.in-Some.ensures.again;
+            room = omega (arith, long);
+            whole = laid_more s.belongs ys c.match-next.positions n e before.remaining after.remaining within split laid ∙ c.loop-position.invariant.whole;
+            same = ap spent w.in-Some.ensures.moves ∙ c.loop-position.invariant.same;
+          }
+      | in_default w ↦
+          let gone : length before.remaining ≡ 0 = ap length (none_left before.remaining w.in_default.ensures.first) in
+          absurd (omega (arith, gone, c.loop-position.invariant.room))
+    ]
+
+pub returns-clause-items : goal.returns-clause-items
+returns-clause-items g c =
+    sym (laid_all g.S.Source.belongs c.loop-position.positions c.loop-position.position-index _ c.loop-position.invariant.room (omega arith)) ∙ c.loop-position.invariant.whole

@@ -1,16 +1,15 @@
 use Rattle.std.proofs.Common.{◌≡◌, ◌+◌, length}
 use Rattle.ledger.specs.Takings.{spent}
-use Rattle.ledger.proofs.Laying.{placed}
+use Rattle.ledger.proofs.Laying.{with_rest}
 use Rattle.ledger.proofs.taking.lay.Given as goal
 
--- what remains, put behind what was put, makes the whole; and what the statement comes to stays
-abbrev pub invariant-loop-entry : goal.invariant-loop-entry
-invariant-loop-entry g l =
+-- what remains, behind what was laid, makes the whole; and what the statement comes to stays
+abbrev pub invariant-loop-position : goal.invariant-loop-position
+invariant-loop-position g l =
     let s = g.S.Source in
-    s.ready l.source
-    × (l.at + length (s.meaning l.source).remaining ≡ l.from + length (s.meaning l.initial.source).remaining)
-    × (placed s.belongs l.table l.at (s.meaning l.source).remaining ≡ placed s.belongs l.initial.table l.from (s.meaning l.initial.source).remaining)
-    × (spent (s.meaning l.source) ≡ spent (s.meaning l.initial.source))
-
-abbrev pub decreases-loop-entry : goal.decreases-loop-entry
-decreases-loop-entry g l = length (g.S.Source.meaning l.source).remaining
+    record {
+      ready : s.ready l.source;
+      room : l.position-index + length (s.meaning l.source).remaining ≡ length l.positions;
+      whole : with_rest s.belongs l.positions l.position-index (s.meaning l.source).remaining ≡ with_rest s.belongs l.initial.positions 0 (s.meaning l.initial.source).remaining;
+      same : spent (s.meaning l.source) ≡ spent (s.meaning l.initial.source);
+    }

@@ -1,0 +1,61 @@
+-- What is known of a denial by what a check answered.
+use Rattle.std.proofs.Common.{◌≡◌, ℕ, ◌+◌, nat_lt, Bool, true, false, not, ℤ, Some, None, Ok, Err, Option, refl, sym, ap, ◌∙◌, arith}
+use Rattle.std.proofs.lemmas.Bool.{cond-false}
+use Rattle.domain.specs.Limits.{is_number}
+use Rattle.domain.specs.declared.amount.Amount.{Amount}
+use Rattle.domain.specs.declared.day.Day.{Day}
+use Rattle.domain.specs.declared.entry.Side.{Side}
+use Rattle.domain.specs.declared.refusal.Refusal.{Refusal}
+use Rattle.domain.specs.declared.refusal.Refusal.TheVariants.{BadTable, NoRoom}
+use Rattle.ledger.specs.declared.ledger.Ledger.{Ledger}
+use Rattle.ledger.specs.Denials.{answered, bad_table, handed, refused_if, table_denied, unless}
+use Rattle.ledger.specs.Records.{side_of, follow_denied}
+use Rattle.ledger.specs.Intakes.{begin_denied}
+use Rattle.source.specs.declared.Head.{Head}
+use Rattle.source.specs.Statement.{Statement, HeadOf}
+use Rattle.ledger.specs.Takings.{room_denied, take_denied}
+use Rattle.std.specs.Option.{option_or}
+
+pub passed : {X : Type 0} (o : Option Refusal) (x y : X) → Ok x ≡ answered o y → o ≡ None
+passed None x y e = refl
+passed (Some why) x y e = absurd (let z : ◌≡◌ {A = ℕ} 0 1 = cc in omega arith)
+
+pub stopped : {X : Type 0} (o : Option Refusal) (why : Refusal) (x : X) → Err why ≡ answered o x → o ≡ Some why
+stopped None why x e = absurd (let z : ◌≡◌ {A = ℕ} 0 1 = cc in omega arith)
+stopped (Some w) why x e = let s : why ≡ w = cc in ap Some (sym s)
+
+-- what a call leaves and gives back that stopped, or went on
+pub handed_stopped : {A X Y : Type 0} (o : Option Refusal) (why : Refusal) (a : A) (x : X) (y : Y) → Err why ≡ answered o a → Err (record { given = y; why = why }) ≡ handed o x y
+handed_stopped o why a x y e = ap (λ (p : Option Refusal). handed p x y) (sym (stopped o why a e))
+
+pub handed_passed : {A X Y : Type 0} (o : Option Refusal) (a b : A) (x : X) (y : Y) → Ok a ≡ answered o b → Ok x ≡ handed o x y
+handed_passed o a b x y e = ap (λ (p : Option Refusal). handed p x y) (sym (passed o a b e))
+
+pub unless_stopped : {A X : Type 0} (o : Option Refusal) (why : Refusal) (a : A) (new old : X) → Err why ≡ answered o a → old ≡ unless o new old
+unless_stopped o why a new old e = ap (λ (p : Option Refusal). unless p new old) (sym (stopped o why a e))
+
+pub unless_passed : {A X : Type 0} (o : Option Refusal) (a b : A) (new old : X) → Ok a ≡ answered o b → new ≡ unless o new old
+unless_passed o a b new old e = ap (λ (p : Option Refusal). unless p new old) (sym (passed o a b e))
+
+-- behind a table that serves, the rest decides
+pub table_passed : (n used : ℕ) (rest : Option Refusal) → table_denied n used ≡ None → refused_if (bad_table n used) BadTable rest ≡ rest
+table_passed n used rest e = served (bad_table n used) e
+  where
+    served : (b : Bool) → refused_if b BadTable None ≡ None → refused_if b BadTable rest ≡ rest
+    served true e = absurd (let z : ◌≡◌ {A = ℕ} 0 1 = cc in omega arith)
+    served false e = refl
+
+-- with a number and a table that pass, it is for the side's record to say
+pub begin_follows : (l : Ledger) (n : ℕ) (side : Side) (number : ℕ) (day : Day) (opening : Amount) → is_number number ≡ true → table_denied n l.used ≡ None
+    → begin_denied l n side number day opening ≡ follow_denied (side_of l side) number opening.minor day.number
+begin_follows l n side number day opening e t = cond-false _ _ _ (ap not e) ∙ table_passed n l.used _ t
+
+-- a record that refuses what follows refuses the whole
+pub follows_stopped : (l : Ledger) (n : ℕ) (side : Side) (number : ℕ) (reached : ℤ) (day count : ℕ) (why : Refusal) → table_denied n l.used ≡ None → follow_denied (side_of l side) number reached day ≡ Some why
+    → room_denied l n side number reached day count ≡ Some why
+follows_stopped l n side number reached day count why t f =
+    table_passed n l.used _ t ∙ ap (λ (o : Option Refusal). option_or o (refused_if (nat_lt n (l.used + count)) NoRoom None)) f
+
+-- the side and the head of a source say all that decides
+pub head_denied : (l : Ledger) (n : ℕ) (a b : Side) (s : Statement) (h : Head) → a ≡ b → HeadOf s h → room_denied l n a h.number h.reached h.closing_day.number h.count ≡ take_denied l n b s
+head_denied l n a b s h p e = λ i. room_denied l n (p i) (e.number i) (e.reached i) (e.closing_day i).number (e.count i)
