@@ -1,5 +1,5 @@
 -- What is known of a denial by what a check answered.
-use Rattle.std.proofs.Common.{◌≡◌, ℕ, ◌+◌, nat_lt, Bool, true, false, not, ℤ, Some, None, Ok, Err, Option, refl, sym, ap, ◌∙◌, arith}
+use Rattle.std.proofs.Common.{◌≡◌, ℕ, ◌+◌, nat_lt, Bool, true, false, not, ℤ, Some, None, Ok, Err, Option, refl, sym, ap, ◌∙◌}
 use Rattle.std.proofs.lemmas.Bool.{cond-false}
 use Rattle.domain.specs.Limits.{is_number}
 use Rattle.domain.specs.declared.amount.Amount.{Amount}
@@ -18,10 +18,10 @@ use Rattle.std.specs.Option.{option_or}
 
 pub passed : {X : Type 0} (o : Option Refusal) (x y : X) → Ok x ≡ answered o y → o ≡ None
 passed None x y e = refl
-passed (Some why) x y e = absurd (let z : ◌≡◌ {A = ℕ} 0 1 = cc in omega arith)
+passed (Some why) x y e = cc
 
 pub stopped : {X : Type 0} (o : Option Refusal) (why : Refusal) (x : X) → Err why ≡ answered o x → o ≡ Some why
-stopped None why x e = absurd (let z : ◌≡◌ {A = ℕ} 0 1 = cc in omega arith)
+stopped None why x e = cc
 stopped (Some w) why x e = let s : why ≡ w = cc in ap Some (sym s)
 
 -- what a call leaves and gives back that stopped, or went on
@@ -42,7 +42,7 @@ pub table_passed : (n used : ℕ) (rest : Option Refusal) → table_denied n use
 table_passed n used rest e = served (bad_table n used) e
   where
     served : (b : Bool) → refused_if b BadTable None ≡ None → refused_if b BadTable rest ≡ rest
-    served true e = absurd (let z : ◌≡◌ {A = ℕ} 0 1 = cc in omega arith)
+    served true e = cc
     served false e = refl
 
 -- with a number and a table that pass, it is for the side's record to say

@@ -1,7 +1,7 @@
 -- Searches, and the passes that join what they find.
 use Rattle.std.proofs.Common.{◌≡◌, ℕ, zero, suc, ◌+◌, ◌<◌, ◌≤◌, Bool, true, false, List, length, get_or, take, is_some, Some, None, Option, sym, refl, ap, ◌∙◌, ⊎_elim, add-one, arith}
 use Rattle.std.proofs.lemmas.List.{get_or_default, get_or-take, length-take-le}
-use Rattle.std.proofs.lemmas.Bool.{cond-true, cond-false, cases_Bool, cases_lt}
+use Rattle.std.proofs.lemmas.Bool.{cond-true, cond-false, cases_lt}
 use Rattle.domain.specs.declared.entry.Item.{Item}
 use Rattle.domain.specs.Blanks.{blank}
 use Rattle.matching.specs.Grouping.{Finder, highest_below, item_at, joined_at, joined_with, paired_up_to, pairs_up_to, counted}
@@ -10,33 +10,14 @@ use Rattle.matching.specs.Grouping.{Finder, highest_below, item_at, joined_at, j
 pub read_at : (xs : List Item) (i : ℕ) (x : Item) → i < length xs → x ≡ get_or xs i x → item_at xs i ≡ x
 read_at xs i x lt is = get_or_default xs i blank x lt ∙ sym is
 
--- what is found stands below and passes
-pub highest_at : (test : Item → Bool) (n : ℕ) (xs : List Item) (j : ℕ) → highest_below test n xs ≡ Some j → (j < n) × (test (item_at xs j) ≡ true)
-highest_at test zero xs j e = let z : ◌≡◌ {A = ℕ} 0 1 = cc in absurd (omega arith)
-highest_at test (suc n) xs j e =
-    ⊎_elim
-    (λ t. let s : Some n ≡ Some j = sym (cond-true (test (item_at xs n)) (Some n) (highest_below test n xs) t) ∙ e in
-    let q : n ≡ j = cc in (omega arith, ap (λ k. test (item_at xs k)) (sym q) ∙ t))
-    (λ f. let r = highest_at test n xs j (sym (cond-false (test (item_at xs n)) (Some n) (highest_below test n xs) f) ∙ e) in (omega arith, r.1))
-    (cases_Bool (test (item_at xs n)))
-
--- one position more of a pass
-paired_more : (find : Finder) (n : ℕ) (xs : List Item) → paired_up_to find (n + 1) xs ≡ joined_with (paired_up_to find n xs) n (find (paired_up_to find n xs) n)
-paired_more find n xs = ap (λ k. paired_up_to find k xs) (add-one n)
-
-pairs_more : (find : Finder) (n : ℕ) (xs : List Item) → pairs_up_to find (n + 1) xs ≡ pairs_up_to find n xs + counted (is_some (find (paired_up_to find n xs) n))
-pairs_more find n xs = ap (λ k. pairs_up_to find k xs) (add-one n)
-
-paired_again : (find : Finder) (n : ℕ) (xs ys zs : List Item) (o : Option ℕ) → ys ≡ paired_up_to find n xs → o ≡ find ys n → zs ≡ joined_with ys n o
-    → zs ≡ paired_up_to find (n + 1) xs
-paired_again find n xs ys zs o a f b =
-    b ∙ ap (joined_with ys n) f ∙ ap (λ (l : List Item). joined_with l n (find l n)) a ∙ sym (paired_more find n xs)
-
-pairs_again : (find : Finder) (n : ℕ) (xs ys : List Item) (o : Option ℕ) (k m : ℕ) → ys ≡ paired_up_to find n xs → o ≡ find ys n → k ≡ pairs_up_to find n xs
-    → m ≡ k + counted (is_some o) → m ≡ pairs_up_to find (n + 1) xs
-pairs_again find n xs ys o k m a f b e =
-    let g : o ≡ find (paired_up_to find n xs) n = f ∙ ap (λ (l : List Item). find l n) a in
-    e ∙ ap (λ (p : Option ℕ). k + counted (is_some p)) g ∙ ap (λ j. j + counted (is_some (find (paired_up_to find n xs) n))) b ∙ sym (pairs_more find n xs)
+-- what is found stands below
+pub highest_at : (test : Item → Bool) (n : ℕ) (xs : List Item) (j : ℕ) → highest_below test n xs ≡ Some j → j < n
+highest_at test zero xs j e = cc
+highest_at test (suc n) xs j e = go (test (item_at xs n)) (highest_at test n xs j) e
+  where
+    go : (b : Bool) → (highest_below test n xs ≡ Some j → j < n) → mathlib.Core.Bool.cond b (Some n) (highest_below test n xs) ≡ Some j → j < suc n
+    go true lower e = let q : n ≡ j = cc in omega arith
+    go false lower e = let l = lower e in omega arith
 
 -- where a pass stands after n positions
 abbrev pub Passing : Finder → ℕ → List Item → List Item → ℕ → Type 0
@@ -44,7 +25,7 @@ Passing find n xs ys k = (ys ≡ paired_up_to find n xs) × (k ≡ pairs_up_to f
 
 pass_more : (find : Finder) (n : ℕ) (xs ys zs : List Item) (o : Option ℕ) (k m : ℕ) → Passing find n xs ys k → o ≡ find ys n → zs ≡ joined_with ys n o
     → m ≡ k + counted (is_some o) → Passing find (n + 1) xs zs m
-pass_more find n xs ys zs o k m p f z e = (paired_again find n xs ys zs o p.0 f z, pairs_again find n xs ys o k m p.0 f p.1 e)
+pass_more find n xs ys zs o k m p f z e = rw (add-one n) (cc, cc)
 
 -- a position that found another, and one that did not
 pub pass_some : (find : Finder) (n : ℕ) (xs ys ws zs : List Item) (j k m : ℕ) → Passing find n xs ys k → Some j ≡ find ys n → zs ≡ ws → ws ≡ joined_at ys n j → m ≡ k + 1

@@ -1,6 +1,6 @@
 -- An original stands within the items.
-use Rattle.std.proofs.Common.{◌≡◌, ℕ, ◌<◌, Bool, true, List, length, IfSome, Some, None, Option, sym, ap, ◌∙◌, ⊎_elim, arith}
-use Rattle.std.proofs.lemmas.Bool.{cond-true, cond-false, cases_Bool}
+use Rattle.std.proofs.Common.{◌≡◌, ℕ, ◌<◌, Bool, true, false, List, length, IfSome, Some, None, Option, sym, refl, ap, ◌∙◌, arith}
+use Rattle.std.proofs.lemmas.Bool.{cond-true}
 use Rattle.domain.specs.declared.entry.Item.{Item}
 use Rattle.matching.specs.Grouping.{item_at, highest_below}
 use Rattle.matching.specs.Folding.{open_reversal, undoes, original_of}
@@ -8,16 +8,14 @@ use Rattle.matching.proofs.Finds.{highest_at}
 
 -- what a test lets through
 pub let_through : {X : Type 0} (b : Bool) (o : Option X) (x : X) → Some x ≡ mathlib.Core.Bool.cond b o None → (b ≡ true) × (o ≡ Some x)
-let_through b o x e =
-    ⊎_elim (λ t. (t, sym (e ∙ cond-true b o None t)))
-    (λ f. let n : Some x ≡ None = e ∙ cond-false b o None f in absurd (let z : ◌≡◌ {A = ℕ} 0 1 = cc in omega arith))
-    (cases_Bool b)
+let_through true o x e = (refl, sym e)
+let_through false o x e = cc
 
 pub original_within : (xs : List Item) (i : ℕ) (o : Option ℕ) → i < length xs → o ≡ original_of xs i → IfSome o (λ j. j < length xs)
 original_within xs i None lt e = tt
 original_within xs i (Some j) lt e =
     let p = let_through (open_reversal (item_at xs i)) (highest_below (undoes (item_at xs i)) i xs) j e in
-    let r = (highest_at (undoes (item_at xs i)) i xs j p.1).0 in
+    let r = highest_at (undoes (item_at xs i)) i xs j p.1 in
     omega arith
 
 -- the position that an outstanding reversal finds

@@ -4,7 +4,7 @@ use Rattle.std.specs.List.{position_or_len}
 use Rattle.std.proofs.Math.ListN.{get_or-eq_default}
 use Rattle.std.proofs.lemmas.List.{length-set, get_or-set_same}
 use Rattle.std.proofs.lemmas.List.Sums.{fails_before_first}
-use Rattle.std.proofs.lemmas.Bool.{and_parts, and_from, cond-true, cond-false, cases_Bool, cases_lt, true≢false, eqb-true, lt-ltb, le-leb}
+use Rattle.std.proofs.lemmas.Bool.{and_parts, and_from, cond-true, cases_lt, true≢false, eqb-true, lt-ltb, le-leb}
 use Rattle.domain.specs.declared.entry.Side.{Side}
 use Rattle.domain.specs.declared.entry.Side.TheVariants.{Bank, Book}
 use Rattle.domain.specs.declared.entry.Entry.{Entry}
@@ -84,8 +84,7 @@ none_fits find fits F (suc n) xs le i j lt f =
 position_none : (test : Item → Bool) → test blank ≡ false → (xs : List Item) → position test xs ≡ None → (k : ℕ) → test (item_at xs k) ≡ true → ⊥
 position_none test b xs e k t =
     ⊎_elim
-    (λ l. let s : Some (position_or_len test xs) ≡ None = sym (cond-true (nat_lt (position_or_len test xs) (length xs)) _ None (lt-ltb _ _ l)) ∙ e in
-    let z : ◌≡◌ {A = ℕ} 0 1 = cc in omega arith)
+    (λ l. let s : Some (position_or_len test xs) ≡ None = sym (cond-true (nat_lt (position_or_len test xs) (length xs)) _ None (lt-ltb _ _ l)) ∙ e in cc)
     (λ none. ⊎_elim
     (λ l. true≢false (sym t ∙ fails_before_first test xs k blank (omega arith)))
     (λ past. true≢false (sym t ∙ ap test (get_or-eq_default xs blank past) ∙ b))
@@ -94,15 +93,11 @@ position_none test b xs e k t =
 
 highest_none : (test : Item → Bool) (n : ℕ) (xs : List Item) → highest_below test n xs ≡ None → (k : ℕ) → k < n → test (item_at xs k) ≡ true → ⊥
 highest_none test zero xs e k lt t = omega arith
-highest_none test (suc n) xs e k lt t =
-    ⊎_elim
-    (λ y. let s : Some n ≡ None = sym (cond-true (test (item_at xs n)) (Some n) (highest_below test n xs) y) ∙ e in
-    let z : ◌≡◌ {A = ℕ} 0 1 = cc in omega arith)
-    (λ f. ⊎_elim
-    (λ l. highest_none test n xs (sym (cond-false (test (item_at xs n)) (Some n) (highest_below test n xs) f) ∙ e) k l t)
-    (λ ge. let q : k ≡ n = omega arith in true≢false (sym t ∙ ap (λ m. test (item_at xs m)) q ∙ f))
-    (cases_lt k n))
-    (cases_Bool (test (item_at xs n)))
+highest_none test (suc n) xs e k lt t = go (test (item_at xs n)) (λ l none. highest_none test n xs none k l t) refl e
+  where
+    go : (b : Bool) → (k < n → highest_below test n xs ≡ None → ⊥) → test (item_at xs n) ≡ b → mathlib.Core.Bool.cond b (Some n) (highest_below test n xs) ≡ None → ⊥
+    go true lower f e = cc
+    go false lower f e = ⊎_elim (λ l. lower l e) (λ ge. let q : k ≡ n = omega arith in true≢false (sym t ∙ ap (λ m. test (item_at xs m)) q ∙ f)) (cases_lt k n)
 
 -- a bank item and a book item that the rule lets pair
 abbrev Pairing : (Entry → Entry → Bool) → List Item → ℕ → ℕ → Type 0
