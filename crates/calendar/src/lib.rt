@@ -73,8 +73,8 @@ fn number(tens: u8, ones: u8) -> u8
 pub fn day_in(date: &[u8]) -> Option<Day>
     ensures { result ≡ day_in date.now }
 {
-    match *date {
-        [y1, y2, m1, m2, d1, d2] if is_digits(date) => {
+    match date {
+        &[y1, y2, m1, m2, d1, d2] if is_digits(date) => {
             let (yy, mm, dd) = (number(y1, y2), number(m1, m2), number(d1, d2));
             day_of(yy, mm, dd).and_then(|n| Day::try_from(n).ok())
         }
@@ -88,7 +88,7 @@ pub fn entry_day(value_date: &[u8], month_day: &[u8]) -> Option<Day>
     ensures { result ≡ entry_day_of value_date.now month_day.now }
 {
     match (value_date, month_day) {
-        ([y1, y2, ..], [m1, m2, d1, d2]) => day_in(&[*y1, *y2, *m1, *m2, *d1, *d2]),
+        (&[y1, y2, ..], &[m1, m2, d1, d2]) => day_in(&[y1, y2, m1, m2, d1, d2]),
         _ => None,
     }
 }

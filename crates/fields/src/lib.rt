@@ -3,6 +3,7 @@
 
 ghost use Rattle.std.specs.Prelude.{◌≡◌, ◌+◌, ◌-◌, ◌*◌, ◌^◌, ◌<◌, ◌≤◌, true, length, pos, position, IfSome, IfOk, MatchOption, Some};
 ghost use Rattle.std.specs.Option.{ok_or};
+ghost use Rattle.domain.specs.Accounts.{digit_count};
 ghost use Rattle.domain.specs.Makers.{as_amount};
 ghost use Rattle.fields.specs.Commas.{before, behind, comma_amount, commas as comma_count, is_comma, minor_in, Figures, Taken};
 ghost use Rattle.fields.specs.Runs.{is_digit as is_digit_byte, all_digits, all_in_run, in_run, is_numeral, numeral_of, run_length, worth as worth_of};
@@ -139,29 +140,29 @@ fn about_comma(run: &[u8]) -> Option<(&[u8], &[u8])>
 
 // The minor units of a number with these digits before its comma and behind it.
 #[tactic(auto, using(crate::proofs::Powers::power_14, crate::proofs::Powers::scaled_most))]
-fn scaled(whole: &[u8], part: &[u8], count: usize) -> u64
-    requires few { count ≤ 3 }
-    requires fit { length part.now ≤ count }
+fn scaled(whole: &[u8], part: &[u8], digits: Digits) -> u64
+    requires fit { length part.now ≤ digit_count digits }
     requires short { length whole.now ≤ 14 }
     requires front { all_digits whole.now ≡ true }
     requires back { all_digits part.now ≡ true }
-    ensures is { result ≡ worth_of whole.now * 10 ^ count + worth_of part.now * 10 ^ (count - length part.now) }
+    ensures is { result ≡ worth_of whole.now * 10 ^ digit_count digits + worth_of part.now * 10 ^ (digit_count digits - length part.now) }
     ensures small { result < 2 ^ 63 }
 {
-    worth(whole) * 10_u64.pow(count as u32) + worth(part) * 10_u64.pow((count - part.len()) as u32)
+    let count = digits.count() as u32;
+    worth(whole) * 10_u64.pow(count) + worth(part) * 10_u64.pow(count - part.len() as u32)
 }
 
-// The minor units of a run of 2 to 15 bytes with one comma, a digit before it and at most `count` digits behind it.
+// The minor units of a run of 2 to 15 bytes with one comma, a digit before it and at most the account's digits behind it.
 #[tactic(auto, using(crate::proofs::Parts::digits_before, crate::proofs::Parts::digits_behind))]
-fn minor(run: &[u8], count: usize) -> Option<u64>
-    requires few { count ≤ 3 }
-    requires each { all_in_run run.now ≡ true }
-    ensures is { result ≡ minor_in count run.now }
+fn minor(run: &[u8], digits: Digits) -> Option<u64>
+    requires { all_in_run run.now ≡ true }
+    ensures is { result ≡ minor_in (digit_count digits) run.now }
     ensures small { IfSome result (λ n. n < 2 ^ 63) }
 {
     let (whole, part) = about_comma(run)?;
-    if commas(run) == 1 && run.len() <= 15 && !whole.is_empty() && part.len() <= count {
-        Some(scaled(whole, part, count))
+    let most = digits.count() as usize;
+    if commas(run) == 1 && run.len() <= 15 && !whole.is_empty() && part.len() <= most {
+        Some(scaled(whole, part, digits))
     } else {
         None
     }
@@ -175,8 +176,7 @@ pub fn comma_amount(bytes: &[u8], digits: Digits) -> Result<(Amount, usize), Ref
     ensures law { ReadsAmount digits bytes.now result }
 {
     let length = run_length(bytes);
-    let count = digits.count() as usize;
-    let minor = minor(&bytes[..length], count).ok_or(Refusal::BadAmount)?;
+    let minor = minor(&bytes[..length], digits).ok_or(Refusal::BadAmount)?;
     let amount = Amount::try_from(minor as i64)?;
     Ok((amount, length))
 }
