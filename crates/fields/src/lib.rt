@@ -161,7 +161,7 @@ fn minor(run: &[u8], digits: Digits) -> Option<u64>
 {
     let (whole, part) = about_comma(run)?;
     let most = digits.count() as usize;
-    if commas(run) == 1 && run.len() <= 15 && !whole.is_empty() && part.len() <= most {
+    if run.len() <= 15 && commas(run) == 1 && !whole.is_empty() && part.len() <= most {
         Some(scaled(whole, part, digits))
     } else {
         None
