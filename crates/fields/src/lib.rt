@@ -89,7 +89,7 @@ fn negative(n: u64) -> Option<Amount>
 }
 
 // An amount in minor units, as the cash book writes it.
-#[tactic(auto, using(crate::proofs::Numbers::reads_units), unfolding(crate::specs::Units::units_of))]
+#[tactic(auto, unfolding(crate::specs::Units::units_of))]
 pub fn units(bytes: &[u8]) -> Option<Amount>
     ensures is { result ≡ units_of bytes.now }
     ensures law { ReadsUnits bytes.now result }
