@@ -38,7 +38,7 @@ fn days_in(year: u16, month: u8) -> u8
 fn is_day(yy: u8, mm: u8, dd: u8) -> bool
     ensures { result ≡ is_day yy mm dd }
 {
-    yy <= 99 && (1..=12).contains(&mm) && (1..=days_in(year_of(yy), mm)).contains(&dd)
+    yy <= 99 && 1 <= mm && mm <= 12 && 1 <= dd && dd <= days_in(year_of(yy), mm)
 }
 
 // The number of the day that a two-digit year, a month and a day of the month name.
@@ -46,10 +46,12 @@ fn is_day(yy: u8, mm: u8, dd: u8) -> bool
 fn day_of(yy: u8, mm: u8, dd: u8) -> Option<u16>
     ensures { result ≡ day_of yy mm dd }
 {
-    is_day(yy, mm, dd).then(|| {
-        let month = 12 * (year_of(yy) as usize - 1980) + (mm as usize - 1);
-        first_days()[month] + (dd as u16 - 1)
-    })
+    // A guard and no `then`, whose closure's sums the check proves only near its limits.
+    if !is_day(yy, mm, dd) {
+        return None;
+    }
+    let month = 12 * (year_of(yy) as usize - 1980) + (mm as usize - 1);
+    Some(first_days()[month] + (dd as u16 - 1))
 }
 
 // Whether these are six digits.
