@@ -21,6 +21,9 @@ first_field bs k e =
     ∙ ap (λ (m : ℕ). take m bs ∷ fields_of (drop (m + 1) bs)) h.1
     ∙ ap (λ (xs : List ℕ). take k bs ∷ fields_of xs) (sym (take_rest bs (k + 1)))
 
+pub fewer_fields : (bs : List ℕ) (k : ℕ) → from 44 0 bs ≡ Some k → length (fields_of (take (length bs - (k + 1)) (drop (k + 1) bs))) < length (fields_of bs)
+fewer_fields bs k e = omega (arith, ap length (first_field bs k e))
+
 -- bytes with no comma, which is looked for from i on
 uncut : (i : ℕ) (bs : List ℕ) → from 44 i bs ≡ None → fields_of bs ≡ bs ∷ []
 uncut i [] e = refl

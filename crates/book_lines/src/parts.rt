@@ -5,7 +5,7 @@ ghost use Rattle.book_lines.specs.Left.{fields_left};
 
 use text::find;
 
-// The fields of a line, one by one: what stands between its commas.
+// The fields of a line, one by one: what stands between its commas. (An array of all N, by a const parameter, gets no proof: the borrow checker covers no array of references whose length is a parameter.)
 #[derive(Clone, Copy)]
 pub(crate) struct Fields<'a> {
     // From the next field on; none behind the last.
@@ -25,7 +25,7 @@ impl<'a> Iterator for Fields<'a> {
 
     ghost remaining = { item_count fields_left };
 
-    #[tactic(auto, using(crate::proofs::Cutting::first_field, crate::proofs::Cutting::last_field))]
+    #[tactic(auto, using(crate::proofs::Cutting::first_field, crate::proofs::Cutting::fewer_fields, crate::proofs::Cutting::last_field))]
     fn next(&mut self) -> Option<&'a [u8]> {
         let rest = self.rest?;
         match find(rest, b',', 0) {
