@@ -19,7 +19,7 @@ pub struct SideRecord {
     pub(crate) opening: Amount,
     // The closing of the last statement, at first the opening.
     pub(crate) closing: Amount,
-    // The number of the last statement, at first 0.
+    // The number of the last statement, at first 0, as the rules have it; no statement has that number.
     pub(crate) number: u32,
     // The closing day of the last statement, at first the ledger's first day.
     pub(crate) last_day: Day,

@@ -38,7 +38,7 @@ fn join_each<F: Fn(&[Item], usize) -> Option<usize>>(items: &mut [Item], choose:
         return 0;
     }
     let mut groups = 0;
-    // By position, since each group changes the items at two positions of the slice that the next choice reads.
+    // By position, and not over the items: each group changes two of them, and the next choice reads them all.
     for i in 0..items.len() {
         if let Some(j) = choose(items, i) {
             join(items, i, j);
@@ -62,7 +62,7 @@ fn lowest_partner<R: MatchRule>(items: &[Item], bank: &Entry, rule: &R) -> Optio
     items.iter().position(|x| is_partner(x, bank, rule))
 }
 
-// The position that is paired with position `i`, if that has an outstanding bank item.
+// What position `i` of the pass is paired with, if it has an outstanding bank item and there is a partner.
 fn partner_of<R: MatchRule>(items: &[Item], i: usize, rule: &R) -> Option<usize>
     requires { i < length items.now }
     ensures { result ≡ partner_of (R.MatchRule.permits rule.now) items.now i }
@@ -109,7 +109,7 @@ fn highest_undone(items: &[Item], reversal: &Item) -> Option<usize>
     items.iter().rposition(|x| undoes(reversal, x))
 }
 
-// The position that forms a group with position `i`, if that has an outstanding reversal.
+// What position `i` of the pass forms a group with, if it has an outstanding reversal and there is an item that this undoes.
 fn original_of(items: &[Item], i: usize) -> Option<usize>
     requires { i < length items.now }
     ensures answer { result ≡ original_of items.now i }
