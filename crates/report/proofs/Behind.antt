@@ -1,5 +1,5 @@
 -- A line written behind a text, in an output that is lent from there on.
-use Rattle.std.proofs.Common.{◌≡◌, ℕ, ◌+◌, ◌-◌, ◌≤◌, List, [], ◌++◌, length, take, drop, sym, refl, ap, ◌∙◌, arith}
+use Rattle.std.proofs.Common.{◌≡◌, ℕ, ◌+◌, ◌-◌, List, [], ◌++◌, length, take, drop, sym, ap, ◌∙◌, arith}
 use borrow.Rule.Slice.PartMut.{put_mid}
 use Rattle.std.proofs.lemmas.List.{take_rest, take_at, drop_at, drop_all, drop-drop, append-nil, append_assoc, length-drop, length-append}
 use Rattle.report.specs.Outputs.{put}
@@ -9,18 +9,9 @@ pub record Holds (text was out : List ℕ) (at : ℕ) : Type 0 where
   pub is : out ≡ text ++ drop at was
   pub long : length text ≡ at
 
-pub holds_nothing : (was : List ℕ) → Holds [] was was 0
-holds_nothing was = record { is = refl; long = refl }
-
 -- what is lent from `at` on is what the output held there
 lent : (text was out : List ℕ) (at : ℕ) → Holds text was out at → take (length out - at) (drop at out) ≡ drop at was
 lent text was out at h = take_rest out at ∙ ap (drop at) h.is ∙ drop_at text (drop at was) at h.long
-
-pub lent_room : (text was out : List ℕ) (at : ℕ) → Holds text was out at → length (take (length out - at) (drop at out)) ≡ length was - at
-lent_room text was out at h = ap length (lent text was out at h) ∙ length-drop at was
-
-pub within : (text was out : List ℕ) (at : ℕ) → Holds text was out at → length text ≤ length was → at ≤ length out
-within text was out at h r = omega (arith, ap length h.is, length-append text (drop at was), h.long)
 
 -- one line more, by a call that is lent the output from `at` on
 pub behind :
@@ -40,10 +31,6 @@ behind text line was out after at n h m w =
       long = length-append text line ∙ omega (arith, h.long, m);
     }
 
--- the whole of a text that is held
-pub held : (text was out : List ℕ) (at : ℕ) → Holds text was out at → out ≡ put text was
-held text was out at h = h.is ∙ ap (λ (k : ℕ). text ++ drop k was) (sym h.long)
-
 -- a text as far as it has been written: what is left of it behind that gives the whole
 pub record Written (whole rest was out : List ℕ) (at : ℕ) : Type 0 where
   pub goes : take at whole ++ rest ≡ whole
@@ -61,15 +48,3 @@ written_more whole line rest all was out after at n e h m w =
       goes = ap (λ (l : List ℕ). l ++ rest) t ∙ cut;
       holds = record { is = b.is ∙ ap (λ (l : List ℕ). l ++ drop (at + n) was) (sym t); long = ap length t ∙ b.long };
     }
-
-pub written_room : (whole line rest all was out : List ℕ) (at : ℕ) → all ≡ line ++ rest → Written whole all was out at → at + length line ≤ length whole
-written_room whole line rest all was out at e h =
-    omega (arith, ap length h.goes, length-append (take at whole) all, ap length e, length-append line rest, h.holds.long)
-
-pub written_whole : (whole was out : List ℕ) (at : ℕ) → Written whole [] was out at → Holds whole was out at
-written_whole whole was out at h =
-    let t : take at whole ≡ whole = sym (append-nil (take at whole)) ∙ h.goes in
-    record { is = h.holds.is ∙ ap (λ (l : List ℕ). l ++ drop at was) t; long = sym (ap length t) ∙ h.holds.long }
-
-pub written_at : (whole rest was out : List ℕ) (at : ℕ) → Written whole rest was out at → at ≤ length whole
-written_at whole rest was out at h = omega (arith, ap length h.goes, length-append (take at whole) rest, h.holds.long)

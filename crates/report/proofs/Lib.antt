@@ -1,6 +1,5 @@
-pub mod Behind
-pub mod Fields
-pub mod Places
-pub mod Signs
-pub mod Tallying
+pub mod Joining
 pub mod Zeros
+pub mod Tallying
+pub mod Behind
+pub mod Counting

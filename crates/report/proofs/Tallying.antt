@@ -1,30 +1,24 @@
--- One item more in a tally.
-use Rattle.std.proofs.Common.{◌≡◌, ℕ, ◌+◌, ◌<◌, ◌≤◌, cond, List, length, get_or, drop, ℤ, pos, ◌+ℤ◌, sym, ap, ◌∙◌, arith}
+-- One item more in a sum.
+use Rattle.std.proofs.Common.{◌≡◌, ℕ, ◌+◌, ◌<◌, true, false, cond, List, length, get_or, drop, ℤ, pos, ◌+ℤ◌, sym, ap, ◌∙◌, arith}
+use Rattle.std.proofs.lemmas.Bool.{cond-true, cond-false}
 use Rattle.std.proofs.lemmas.List.{at_drop_more}
 use Rattle.std.proofs.lemmas.Int.{ints}
-use Rattle.std.proofs.lemmas.Bool.{cond_both}
 use Rattle.domain.specs.declared.entry.Item.{Item}
 use Rattle.domain.specs.declared.entry.Side.{Side}
-use Rattle.report.specs.Tallies.{is_open, open_count, open_sum, Bounded}
-
-abbrev pub one : Side → Item → ℕ
-one s x = cond (is_open s x) 1 0
-
-abbrev pub part : Side → Item → ℤ
-part s x = cond (is_open s x) x.entry.amount.minor (pos 0)
+use Rattle.report.specs.Tallies.{is_open, open_sum}
 
 module _ (s : Side) (xs : List Item) (i : ℕ) (x : Item) (h : i < length xs) (e : x ≡ get_or xs i x) where
-  pub count_more : open_count s (drop i xs) ≡ one s x + open_count s (drop (i + 1) xs)
-  count_more = at_drop_more (open_count s) xs i x h ∙ ap (λ (y : Item). one s y + open_count s (drop (i + 1) xs)) (sym e)
+  part : Item → ℤ
+  part y = cond (is_open s y) y.entry.amount.minor (pos 0)
 
-  pub sum_more : open_sum s (drop i xs) ≡ part s x +ℤ open_sum s (drop (i + 1) xs)
-  sum_more = at_drop_more (open_sum s) xs i x h ∙ ap (λ (y : Item). part s y +ℤ open_sum s (drop (i + 1) xs)) (sym e)
+  sum_more : open_sum s (drop i xs) ≡ part x +ℤ open_sum s (drop (i + 1) xs)
+  unfolding part
+  sum_more = at_drop_more (open_sum s) xs i x h ∙ ap (λ (y : Item). part y +ℤ open_sum s (drop (i + 1) xs)) (sym e)
 
-pub one_most : (s : Side) (x : Item) → one s x ≤ 1
-one_most s x = cond_both (is_open s x) 1 0 (λ n. n ≤ 1) (λ _. omega arith) (λ _. omega arith)
+  pub sum_open : is_open s x ≡ true → open_sum s (drop i xs) ≡ x.entry.amount.minor +ℤ open_sum s (drop (i + 1) xs)
+  unfolding part
+  sum_open t = sum_more ∙ ap (λ (z : ℤ). z +ℤ open_sum s (drop (i + 1) xs)) (cond-true (is_open s x) _ _ t)
 
-pub part_bounded : (s : Side) (x : Item) → Bounded 1 (part s x)
-part_bounded s x =
-    cond_both (is_open s x) x.entry.amount.minor (pos 0) (Bounded 1)
-    (λ _. record { low = omega (arith, ints, x.entry.amount.within.0); high = omega (arith, ints, x.entry.amount.within.1) })
-    (λ _. record { low = omega (arith, ints); high = omega (arith, ints) })
+  pub sum_closed : is_open s x ≡ false → open_sum s (drop i xs) ≡ open_sum s (drop (i + 1) xs)
+  unfolding part
+  sum_closed t = omega (arith, ints, sum_more, cond-false (is_open s x) x.entry.amount.minor (pos 0) t)

@@ -1,5 +1,6 @@
 -- The outstanding items of a side, counted and added.
-use Rattle.std.specs.Prelude.{ℕ, ◌+◌, ◌*◌, Bool, cond, ◌&&◌, List, [], ◌∷◌, ℤ, pos, ◌+ℤ◌, neg_ℤ, ◌≤ℤ◌, codes, decimal, ◌==◌}
+use Rattle.std.specs.Prelude.{ℕ, Bool, cond, ◌&&◌, List, [], ◌∷◌, ℤ, pos, ◌+ℤ◌, codes, decimal, ◌==◌}
+use Rattle.std.specs.List.{count_by}
 use Rattle.std.specs.Fmt.{signed_decimal}
 use Rattle.domain.specs.declared.entry.Item.{Item}
 use Rattle.domain.specs.declared.entry.Side.{Side}
@@ -11,8 +12,7 @@ abbrev pub is_open : Side → Item → Bool
 is_open s x = same_side s x.side && x.group == 0
 
 abbrev pub open_count : Side → List Item → ℕ
-open_count s [] = 0
-open_count s (x ∷ xs) = cond (is_open s x) 1 0 + open_count s xs
+open_count s xs = count_by (is_open s) xs
 
 abbrev pub open_sum : Side → List Item → ℤ
 open_sum s [] = pos 0
@@ -21,8 +21,3 @@ open_sum s (x ∷ xs) = cond (is_open s x) x.entry.amount.minor (pos 0) +ℤ ope
 -- T: open items and their sum, bank then book
 abbrev pub total_row : List Item → List ℕ
 total_row xs = row (codes "T") (decimal (open_count Bank xs) ∷ signed_decimal (open_sum Bank xs) ∷ decimal (open_count Book xs) ∷ signed_decimal (open_sum Book xs) ∷ [])
-
--- within n amounts of nought
-pub record Bounded (n : ℕ) (z : ℤ) : Type 0 where
-  pub low : neg_ℤ (pos (99999999999999 * n)) ≤ℤ z
-  pub high : z ≤ℤ pos (99999999999999 * n)

@@ -1,124 +1,67 @@
-// A line of output, built field by field.
-ghost use Rattle.std.specs.Prelude.{◌≡◌, ℕ, ◌+◌, ◌<◌, ◌≤◌, [], ◌∷◌, ◌++◌, length, ℤ, decimal};
-ghost use Rattle.std.specs.Fmt.{signed_decimal as signed_text};
-ghost use Rattle.domain.specs.Keys.{until_zero, printed_key};
+// A line of output.
+ghost use Rattle.std.specs.Prelude.{◌≡◌, ◌≤◌, [], ◌∷◌, map, length, not, ◌==◌};
+ghost use Rattle.std.specs.List.{prefix_len};
+ghost use Rattle.domain.specs.Keys.{until_zero};
 ghost use Rattle.report.specs.Outputs.{text_of, put as put_text};
+ghost use Rattle.report.specs.Rows.{row};
 
-use domain::key::Key;
+use arrayvec::ArrayVec;
 
 // At most 128 bytes: no line of a report is longer.
-#[derive(Clone, Copy)]
+#[derive(Default, Drop)]
 pub(crate) struct Line {
-    bytes: [u8; 128],
-    len: usize,
+    bytes: ArrayVec<u8, 128>,
 }
 
 impl Line {
-    pub(crate) fn new() -> Line
-        ensures { (text_of result ≡ []) × (result.len ≡ 0) }
+    // A tag and the fields behind it, parted by commas and ended by LF.
+    #[tactic(auto, using(crate::proofs::Joining::row_longer))]
+    pub(crate) fn row(tag: u8, fields: &[&[u8]]) -> Line
+        requires { length (row (tag ∷ []) (map (λ f. f.now) fields.now)) ≤ 128 }
+        ensures { text_of result ≡ row (tag ∷ []) (map (λ f. f.now) fields.now) }
     {
-        Line {
-            bytes: [0; 128],
-            len: 0,
+        let mut bytes = ArrayVec::new();
+        bytes.push(tag);
+        for field in fields {
+            bytes.push(b',');
+            let _ = bytes.try_extend_from_slice(field);
         }
-    }
-
-    pub(crate) fn byte(&mut self, b: u8)
-        requires { self.old.len < 128 }
-        ensures text { text_of self.new ≡ text_of self.old ++ b ∷ [] }
-        ensures len { self.new.len ≡ self.old.len + 1 }
-    {
-        self.bytes[self.len] = b;
-        self.len += 1;
-    }
-
-    // A run of bytes.
-    pub(crate) fn all(&mut self, bytes: &[u8])
-        requires { self.old.len + length bytes.now ≤ 128 }
-        ensures text { text_of self.new ≡ text_of self.old ++ bytes.now }
-        ensures len { self.new.len ≡ self.old.len + length bytes.now }
-    {
-        for b in bytes {
-            self.byte(*b);
-        }
-    }
-
-    fn digits(&mut self, n: u64)
-        requires { self.old.len + length (decimal n) ≤ 128 }
-        ensures text { text_of self.new ≡ text_of self.old ++ decimal n }
-        ensures len { self.new.len ≡ self.old.len + length (decimal n) }
-    {
-        if n < 10 {
-            self.byte(48 + n as u8);
-        } else {
-            self.digits(n / 10);
-            self.byte(48 + (n % 10) as u8);
-        }
-    }
-
-    // A whole number, by its decimal digits.
-    pub(crate) fn number(&mut self, n: u64)
-        requires { self.old.len ≤ 100 }
-        ensures text { text_of self.new ≡ text_of self.old ++ decimal n }
-        ensures few { self.new.len ≤ self.old.len + 20 }
-    {
-        self.digits(n);
-    }
-
-    // A whole number, with a minus in front where it is negative.
-    pub(crate) fn signed(&mut self, z: i64)
-        requires { self.old.len ≤ 100 }
-        ensures text { text_of self.new ≡ text_of self.old ++ signed_text z }
-        ensures few { self.new.len ≤ self.old.len + 20 }
-    {
-        if z < 0 {
-            self.byte(45);
-            self.digits(z.unsigned_abs());
-        } else {
-            self.digits(z.unsigned_abs());
-        }
-    }
-
-    // The bytes before the first zero byte.
-    fn until_zero(&mut self, bytes: &[u8])
-        requires { self.old.len + length bytes.now ≤ 128 }
-        ensures text { text_of self.new ≡ text_of self.old ++ until_zero bytes.now }
-        ensures few { self.new.len ≤ self.old.len + length bytes.now }
-    {
-        for b in bytes {
-            if *b == 0 {
-                return;
-            }
-            self.byte(*b);
-        }
-    }
-
-    // The reference that a key stands for; nothing for the blank key.
-    pub(crate) fn key(&mut self, key: Key)
-        requires { self.old.len ≤ 100 }
-        ensures text { text_of self.new ≡ text_of self.old ++ printed_key key }
-        ensures few { self.new.len ≤ self.old.len + 16 }
-    {
-        self.until_zero(&key.bytes());
+        bytes.push(b'\n');
+        Line { bytes }
     }
 
     pub(crate) fn length(&self) -> usize
-        requires { self.now.len ≤ 128 }
         ensures is { result ≡ length (text_of self.now) }
         ensures short { result ≤ 128 }
     {
-        self.len
+        self.bytes.len()
     }
 
     // Writes the line at the front of an output.
     pub(crate) fn put(&self, out: &mut [u8]) -> usize
-        requires short { self.now.len ≤ 128 }
-        requires room { length (text_of self.now) ≤ length out.old }
+        requires { length (text_of self.now) ≤ length out.old }
         ensures is { out.new ≡ put_text (text_of self.now) out.old }
         ensures len { result ≡ length (text_of self.now) }
     {
-        let n = self.len;
-        out[0..n].copy_from_slice(&self.bytes[0..n]);
+        let n = self.bytes.len();
+        out[..n].copy_from_slice(&self.bytes);
         n
     }
+}
+
+// How many bytes stand before the first zero byte.
+fn zero_at(bytes: &[u8]) -> usize
+    ensures { result ≡ prefix_len (λ b. not (b == 0)) bytes.now }
+{
+    bytes.iter().take_while(|b| **b != 0).count()
+}
+
+// The bytes before the first zero byte.
+#[tactic(auto, using(crate::proofs::Zeros::before_zero))]
+pub(crate) fn until_zero(bytes: &[u8]) -> &[u8]
+    ensures is { result.now ≡ until_zero bytes.now }
+    ensures few { length result.now ≤ length bytes.now }
+{
+    let end = zero_at(bytes);
+    &bytes[..end]
 }

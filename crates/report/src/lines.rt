@@ -1,72 +1,108 @@
-// The lines of a report, one by one: each can be asked for by its place, so that they can be measured before any is written.
-ghost use Rattle.std.specs.Prelude.{◌≡◌, ◌+◌, ◌*◌, ◌≤◌, [], length, slice_index_or};
+// The lines of a report, one behind the other.
+ghost use Rattle.std.specs.Prelude.{◌≡◌, ◌+◌, ◌≤◌, length};
+ghost use Rattle.std.specs.Iterator.{item_count, YieldsFirstBy};
+ghost use Rattle.std.specs.Iterator.Adapters.{enumerate_count, enumerate_source};
+ghost use Rattle.std.specs.Slice.Iter.{iter_rest};
 ghost use Rattle.report.specs.Outputs.{put, text_of};
 ghost use Rattle.report.specs.Reports.{open_row, report_rows, together};
 
 use crate::line::Line;
 use crate::rows::{currency_row, difference_row, item_row, side_row, total_row};
-use domain::entry::Item;
+use domain::entry::{Item, Side};
 use ledger::ledger::Ledger;
+use std::iter::Enumerate;
+use std::{array, slice};
 
 // The line of an item, which is empty where the item is not outstanding.
 fn open_row(number: usize, item: &Item) -> Line
-    ensures text { text_of result ≡ open_row number item.now }
-    ensures short { result.len ≤ 128 }
+    ensures { text_of result ≡ open_row number item.now }
 {
     if item.group != 0 {
-        return Line::new();
+        return Line::default();
     }
     item_row(number, item)
 }
 
-// The line at a place, counted from 0: four above the items, one for each item, and the totals.
-fn row_at(ledger: &Ledger, items: &[Item], k: usize) -> Line
-    requires few { length items.now ≤ 8192 }
-    requires within { k ≤ length items.now + 4 }
-    ensures text { text_of result ≡ slice_index_or (report_rows ledger.now items.now) k [] }
-    ensures short { result.len ≤ 128 }
-{
-    match k {
-        0 => currency_row(ledger.currency(), ledger.digits()),
-        1 => side_row(b'B', ledger.bank()),
-        2 => side_row(b'H', ledger.book()),
-        3 => difference_row(ledger.bank().opening(), ledger.book().opening()),
-        _ => {
-            let i = k - 4;
-            if i < items.len() {
-                open_row(i + 1, &items[i])
-            } else {
-                total_row(items)
-            }
+// The lines of a report that are still to be given: those above the items, one for each item, and the totals.
+#[derive(Drop)]
+pub(crate) struct Rows<'a> {
+    above: array::IntoIter<Line, 4>,
+    items: Enumerate<slice::Iter<'a, Item>>,
+    total: Option<Line>,
+    ghost few: { enumerate_count items + length (iter_rest (enumerate_source items)) ≤ 8192 },
+}
+
+impl<'a> Iterator for Rows<'a> {
+    ghost use Rattle.report.specs.Lines.{rows_left};
+
+    type Item = Line;
+
+    ghost next_gives = { YieldsFirstBy text_of rows_left };
+
+    ghost remaining = { item_count rows_left };
+
+    fn next(&mut self) -> Option<Line> {
+        if let Some(line) = self.above.next() {
+            return Some(line);
+        }
+        if let Some((i, item)) = self.items.next() {
+            return Some(open_row(i + 1, item));
+        }
+        self.total.take()
+    }
+}
+
+// A ledger and the items in use, which a report is made of.
+#[derive(Clone, Copy)]
+pub(crate) struct Report<'a> {
+    pub(crate) ledger: &'a Ledger,
+    pub(crate) items: &'a [Item],
+    ghost few: { length items.now ≤ 8192 },
+}
+
+impl<'a> Report<'a> {
+    ghost use Rattle.report.specs.Lines.{rows_left};
+
+    #[tactic(auto, unfolding(crate::specs::Reports::report_rows))]
+    fn rows(&self) -> Rows<'a>
+        ensures { rows_left result ≡ report_rows self.now.ledger.now self.now.items.now }
+    {
+        let ledger = self.ledger;
+        let above = [
+            currency_row(ledger.currency(), ledger.digits()),
+            side_row(Side::Bank, ledger.bank()),
+            side_row(Side::Book, ledger.book()),
+            difference_row(ledger.bank().opening(), ledger.book().opening()),
+        ];
+        Rows {
+            above: above.into_iter(),
+            items: self.items.iter().enumerate(),
+            total: Some(total_row(self.items)),
         }
     }
-}
 
-// How long the report is.
-pub(crate) fn lines_length(ledger: &Ledger, items: &[Item]) -> usize
-    requires { length items.now ≤ 8192 }
-    ensures { result ≡ length (together (report_rows ledger.now items.now)) }
-{
-    let count = items.len() + 5;
-    let mut total = 0;
-    for k in 0..count {
-        total += row_at(ledger, items, k).length();
+    // How long the report is.
+    #[tactic(auto, using(crate::proofs::Counting::rows_count))]
+    pub(crate) fn length(&self) -> usize
+        ensures { result ≡ length (together (report_rows self.now.ledger.now self.now.items.now)) }
+    {
+        let mut length = 0;
+        for line in self.rows() {
+            length += line.length();
+        }
+        length
     }
-    total
-}
 
-// Writes the report: each line into what remains of the output behind the lines before.
-pub(crate) fn put_lines(ledger: &Ledger, items: &[Item], out: &mut [u8]) -> usize
-    requires few { length items.now ≤ 8192 }
-    requires room { length (together (report_rows ledger.now items.now)) ≤ length out.old }
-    ensures is { out.new ≡ put (together (report_rows ledger.now items.now)) out.old }
-    ensures len { result ≡ length (together (report_rows ledger.now items.now)) }
-{
-    let count = items.len() + 5;
-    let mut at = 0;
-    for k in 0..count {
-        let line = row_at(ledger, items, k);
-        at += line.put(&mut out[at..]);
+    // Writes the report: each line into what remains of the output behind the lines before.
+    pub(crate) fn put(&self, out: &mut [u8]) -> usize
+        requires { length (together (report_rows self.now.ledger.now self.now.items.now)) ≤ length out.old }
+        ensures is { out.new ≡ put (together (report_rows self.now.ledger.now self.now.items.now)) out.old }
+        ensures len { result ≡ length (together (report_rows self.now.ledger.now self.now.items.now)) }
+    {
+        let mut at = 0;
+        for line in self.rows() {
+            at += line.put(&mut out[at..]);
+        }
+        at
     }
-    at
 }

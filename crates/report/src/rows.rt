@@ -1,65 +1,38 @@
 // The lines of a report.
-ghost use Rattle.std.specs.Prelude.{◌≡◌, ◌≤◌, length, ◌-ℤ◌};
+ghost use Rattle.std.specs.Prelude.{◌≡◌, ◌≤◌, length};
 ghost use Rattle.report.specs.Outputs.{text_of};
 ghost use Rattle.report.specs.Rows.{currency_row, difference_row, item_row, side_row, side_tag};
 ghost use Rattle.report.specs.Tallies.{total_row};
 
-use crate::line::Line;
-use crate::tally::tally_of;
+use crate::line::{Line, until_zero};
+use crate::tally::{open_count, open_sum};
 use domain::amount::Amount;
 use domain::currency::Currency;
 use domain::digits::Digits;
 use domain::entry::{Item, Side};
+use itoa::Buffer;
 use ledger::record::SideRecord;
 
 // R: currency and digits.
 pub(crate) fn currency_row(currency: Currency, digits: Digits) -> Line
-    ensures text { text_of result ≡ currency_row currency digits }
-    ensures short { result.len ≤ 128 }
+    ensures { text_of result ≡ currency_row currency digits }
 {
-    let mut line = Line::new();
-    line.all(b"R,");
-    line.all(&currency.code());
-    line.byte(b',');
-    line.number(digits.count() as u64);
-    line.byte(b'\n');
-    line
-}
-
-// How far the bank's first opening lies above the book's.
-fn difference(bank: Amount, book: Amount) -> i64
-    ensures { result ≡ bank.minor -ℤ book.minor }
-{
-    bank.minor() - book.minor()
+    let mut count = Buffer::new();
+    Line::row(
+        b'R',
+        &[&currency.code(), count.format(digits.count()).as_bytes()],
+    )
 }
 
 // D: first bank opening less first book opening.
 pub(crate) fn difference_row(bank: Amount, book: Amount) -> Line
-    ensures text { text_of result ≡ difference_row bank book }
-    ensures short { result.len ≤ 128 }
+    ensures { text_of result ≡ difference_row bank book }
 {
-    let mut line = Line::new();
-    line.all(b"D,");
-    line.signed(difference(bank, book));
-    line.byte(b'\n');
-    line
-}
-
-// B or H: last number, last closing day, closing.
-pub(crate) fn side_row(tag: u8, side: SideRecord) -> Line
-    ensures text { text_of result ≡ side_row tag side }
-    ensures short { result.len ≤ 128 }
-{
-    let mut line = Line::new();
-    line.byte(tag);
-    line.byte(b',');
-    line.number(side.number() as u64);
-    line.byte(b',');
-    line.all(&calendar::written(side.last_day()));
-    line.byte(b',');
-    line.signed(side.closing().minor());
-    line.byte(b'\n');
-    line
+    let mut difference = Buffer::new();
+    Line::row(
+        b'D',
+        &[difference.format(bank.minor() - book.minor()).as_bytes()],
+    )
 }
 
 fn side_tag(side: Side) -> u8
@@ -71,43 +44,57 @@ fn side_tag(side: Side) -> u8
     }
 }
 
-// O: B or H, item number, value day, amount, reference.
-pub(crate) fn item_row(number: usize, item: &Item) -> Line
-    ensures text { text_of result ≡ item_row number item.now }
-    ensures short { result.len ≤ 128 }
+// B or H: last number, last closing day, closing.
+pub(crate) fn side_row(side: Side, kept: SideRecord) -> Line
+    ensures { text_of result ≡ side_row (side_tag side) kept }
 {
-    let mut line = Line::new();
-    line.all(b"O,");
-    line.byte(side_tag(item.side));
-    line.byte(b',');
-    line.number(number as u64);
-    line.byte(b',');
-    line.all(&calendar::written(item.entry.value_day));
-    line.byte(b',');
-    line.signed(item.entry.amount.minor());
-    line.byte(b',');
-    line.key(item.entry.key);
-    line.byte(b'\n');
-    line
+    let mut number = Buffer::new();
+    let mut closing = Buffer::new();
+    Line::row(
+        side_tag(side),
+        &[
+            number.format(kept.number()).as_bytes(),
+            &calendar::written(kept.last_day()),
+            closing.format(kept.closing().minor()).as_bytes(),
+        ],
+    )
+}
+
+// O: B or H, item number, value day, amount, reference.
+#[tactic(auto, unfolding(domain::specs::Keys::printed_key))]
+pub(crate) fn item_row(number: usize, item: &Item) -> Line
+    ensures { text_of result ≡ item_row number item.now }
+{
+    let mut numbers = Buffer::new();
+    let mut amount = Buffer::new();
+    Line::row(
+        b'O',
+        &[
+            &[side_tag(item.side)],
+            numbers.format(number).as_bytes(),
+            &calendar::written(item.entry.value_day),
+            amount.format(item.entry.amount.minor()).as_bytes(),
+            until_zero(&item.entry.key.bytes()),
+        ],
+    )
 }
 
 // T: open items and their sum, bank then book.
 pub(crate) fn total_row(items: &[Item]) -> Line
     requires { length items.now ≤ 8192 }
-    ensures text { text_of result ≡ total_row items.now }
-    ensures short { result.len ≤ 128 }
+    ensures { text_of result ≡ total_row items.now }
 {
-    let bank = tally_of(items, Side::Bank);
-    let book = tally_of(items, Side::Book);
-    let mut line = Line::new();
-    line.all(b"T,");
-    line.number(bank.count as u64);
-    line.byte(b',');
-    line.signed(bank.sum);
-    line.byte(b',');
-    line.number(book.count as u64);
-    line.byte(b',');
-    line.signed(book.sum);
-    line.byte(b'\n');
-    line
+    let mut bank_count = Buffer::new();
+    let mut bank_sum = Buffer::new();
+    let mut book_count = Buffer::new();
+    let mut book_sum = Buffer::new();
+    Line::row(
+        b'T',
+        &[
+            bank_count.format(open_count(items, Side::Bank)).as_bytes(),
+            bank_sum.format(open_sum(items, Side::Bank)).as_bytes(),
+            book_count.format(open_count(items, Side::Book)).as_bytes(),
+            book_sum.format(open_sum(items, Side::Book)).as_bytes(),
+        ],
+    )
 }

@@ -1,49 +1,30 @@
 // The outstanding items of a side, counted and added.
-ghost use Rattle.std.specs.Prelude.{◌≡◌, ◌+◌, ◌*◌, ◌<◌, ◌≤◌, length, pos, ◌+ℤ◌, neg_ℤ, ◌≤ℤ◌, if◌then◌else◌};
-ghost use Rattle.report.specs.Tallies.{is_open, open_count, open_sum, Bounded};
+ghost use Rattle.std.specs.Prelude.{◌≡◌, ◌≤◌, length};
+ghost use Rattle.report.specs.Tallies.{is_open, open_count, open_sum};
 
 use domain::entry::{Item, Side};
-
-#[derive(Clone, Copy)]
-pub(crate) struct Tally {
-    pub(crate) count: u32,
-    pub(crate) sum: i64,
-}
 
 fn is_open(item: &Item, side: Side) -> bool
     ensures { result ≡ is_open side item.now }
 {
-    match (side, item.side) {
-        (Side::Bank, Side::Bank) => item.group == 0,
-        (Side::Book, Side::Book) => item.group == 0,
-        _ => false,
-    }
+    item.side == side && item.group == 0
 }
 
-// What a tally is with one item more.
-fn with(tally: Tally, item: &Item, side: Side) -> Tally
-    requires { (tally.count ≤ 8192) × (Bounded 8192 tally.sum) }
-    ensures count { result.count ≡ tally.count + (if is_open side item.now then 1 else 0) }
-    ensures sum { result.sum ≡ tally.sum +ℤ (if is_open side item.now then item.now.entry.amount.minor else pos 0) }
+pub(crate) fn open_count(items: &[Item], side: Side) -> usize
+    ensures { result ≡ open_count side items.now }
 {
-    if is_open(item, side) {
-        Tally {
-            count: tally.count + 1,
-            sum: tally.sum + item.entry.amount.minor(),
-        }
-    } else {
-        tally
-    }
+    items.iter().filter(|item| is_open(item, side)).count()
 }
 
-pub(crate) fn tally_of(items: &[Item], side: Side) -> Tally
+pub(crate) fn open_sum(items: &[Item], side: Side) -> i64
     requires { length items.now ≤ 8192 }
-    ensures count { result.count ≡ open_count side items.now }
-    ensures sum { result.sum ≡ open_sum side items.now }
+    ensures { result ≡ open_sum side items.now }
 {
-    let mut t = Tally { count: 0, sum: 0 };
-    for x in items {
-        t = with(t, x, side);
+    let mut sum = 0;
+    for item in items {
+        if is_open(item, side) {
+            sum += item.entry.amount.minor();
+        }
     }
-    t
+    sum
 }
