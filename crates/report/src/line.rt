@@ -14,7 +14,8 @@ pub(crate) struct Line {
 }
 
 impl Line {
-    // A tag and the fields behind it, parted by commas and ended by LF.
+    // A tag and the fields behind it, parted by commas and ended by LF. No `impl Display` (tried): std says what a `write!` wrote
+    // only where it answers Ok, and never that it does, but a line is always made.
     #[tactic(auto, using(crate::proofs::Joining::row_longer))]
     pub(crate) fn row(tag: u8, fields: &[&[u8]]) -> Line
         requires { length (row (tag ∷ []) (map (λ f. f.now) fields.now)) ≤ 128 }
@@ -24,6 +25,7 @@ impl Line {
         bytes.push(tag);
         for field in fields {
             bytes.push(b',');
+            // The line has room for it: `requires` asks for that.
             let _ = bytes.try_extend_from_slice(field);
         }
         bytes.push(b'\n');

@@ -41,6 +41,7 @@ impl<'a> Iterator for Rows<'a> {
 
     ghost remaining = { item_count rows_left };
 
+    // No `or_else`: where closures take from the three in turn, no proof knows what they left (tried).
     fn next(&mut self) -> Option<Line> {
         if let Some(line) = self.above.next() {
             return Some(line);

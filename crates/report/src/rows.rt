@@ -35,6 +35,7 @@ pub(crate) fn difference_row(bank: Amount, book: Amount) -> Line
     )
 }
 
+// No `From<Side> for u8`: the tag is the report's, and an `impl` for it could stand only in `domain`.
 fn side_tag(side: Side) -> u8
     ensures { result ≡ side_tag side }
 {
