@@ -22,9 +22,7 @@ pub fn write_report(ledger: &Ledger, table: &[Item], out: &mut [u8]) -> Result<u
     ensures output { out.new ≡ unless (report_denied ledger.now table.now (length out.old)) (put (report_of ledger.now table.now) out.old) out.old }
     ensures within { IfOk result (λ n. n ≤ length out.old) }
 {
-    if let Some(why) = ledger.table_denied(table.len()) {
-        return Err(why);
-    }
+    ledger.check_table(table.len())?;
     let report = Report {
         ledger,
         items: &table[..ledger.used()],
