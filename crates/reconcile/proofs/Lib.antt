@@ -1,3 +1,2 @@
-pub mod Chaining
-pub mod Denying
+pub mod Handing
 pub mod Reading

@@ -1,5 +1,6 @@
 // The steps from two statements to a report.
-ghost use Rattle.std.specs.Prelude.{◌≡◌, ◌≤◌, length, IfOk, Ok, Err};
+// Ledger and table travel side by side: in a struct with the table lent, no proof is made of the calls that answer it (tried).
+ghost use Rattle.std.specs.Prelude.{◌≡◌, ◌≤◌, length, IfOk};
 ghost use Rattle.reconcile.specs.Steps.{opened_at, taken_by, folded_by, matched_by, finished_by, reconciled_of, paired, length_of, output_of};
 
 use domain::amount::Amount;
@@ -11,17 +12,12 @@ use report::write_report;
 use source::{Head, Source};
 
 // A ledger for both statements, opened at the bank's opening day.
+#[tactic(auto, unfolding(crate::specs::Steps::opened_at))]
 fn open_for(bank: &Head, book: &Head, table: &mut [Item]) -> Result<Ledger, Refusal>
     ensures { paired result table.new ≡ opened_at bank.now.opening_day bank.now.reached book.now.reached (length table.old) }
 {
-    let bank_opening = match Amount::try_from(bank.reached) {
-        Ok(opening) => opening,
-        Err(why) => return Err(why),
-    };
-    let book_opening = match Amount::try_from(book.reached) {
-        Ok(opening) => opening,
-        Err(why) => return Err(why),
-    };
+    let bank_opening = Amount::try_from(bank.reached)?;
+    let book_opening = Amount::try_from(book.reached)?;
     Ledger::open(
         b"EUR",
         2,
@@ -32,59 +28,43 @@ fn open_for(bank: &Head, book: &Head, table: &mut [Item]) -> Result<Ledger, Refu
     )
 }
 
-// Why a call was refused that gave its ledger back.
-fn why_refused(denied: (Ledger, Refusal)) -> Refusal
-    ensures { result ≡ denied.1 }
-{
-    denied.1
-}
-
 fn take<S: Source>(ledger: Ledger, source: &mut S, table: &mut [Item]) -> Result<Ledger, Refusal>
     requires { S.Source.ready source.old }
     ensures { paired result table.new ≡ taken_by S.Source.belongs (S.Source.meaning source.old) (record { ledger = ledger; table = table.old }) }
 {
-    match ledger.take(source, table) {
-        Ok(ledger) => Ok(ledger),
-        Err(denied) => Err(why_refused(denied)),
-    }
+    Ok(ledger.take(source, table)?)
 }
 
+#[tactic(auto, unfolding(crate::specs::Steps::folded_by))]
 fn fold(ledger: Ledger, table: &mut [Item]) -> Result<Ledger, Refusal>
     ensures { paired result table.new ≡ folded_by (record { ledger = ledger; table = table.old }) }
 {
-    match ledger.fold(table) {
-        Ok(_) => Ok(ledger),
-        Err(why) => Err(why),
-    }
+    ledger.fold(table)?;
+    Ok(ledger)
 }
 
+#[tactic(auto, unfolding(crate::specs::Steps::matched_by))]
 fn match_references(ledger: Ledger, table: &mut [Item]) -> Result<Ledger, Refusal>
     ensures { paired result table.new ≡ matched_by (record { ledger = ledger; table = table.old }) }
 {
-    match ledger.match_items(table, &ByReference {}) {
-        Ok(_) => Ok(ledger),
-        Err(why) => Err(why),
-    }
+    ledger.match_items(table, &ByReference {})?;
+    Ok(ledger)
 }
 
 // What both statements come to once they are taken: folded, matched and reported.
+#[tactic(auto, unfolding(crate::specs::Steps::finished_by, crate::specs::Steps::reported_by))]
 fn finish(ledger: Ledger, table: &mut [Item], out: &mut [u8]) -> Result<usize, Refusal>
     ensures answer { result ≡ length_of (finished_by (length out.old) (record { ledger = ledger; table = table.old })) }
     ensures output { out.new ≡ output_of (finished_by (length out.old) (record { ledger = ledger; table = table.old })) out.old }
     ensures within { IfOk result (λ n. n ≤ length out.old) }
 {
-    let ledger = match fold(ledger, table) {
-        Ok(folded) => folded,
-        Err(why) => return Err(why),
-    };
-    let ledger = match match_references(ledger, table) {
-        Ok(matched) => matched,
-        Err(why) => return Err(why),
-    };
+    let ledger = fold(ledger, table)?;
+    let ledger = match_references(ledger, table)?;
     write_report(&ledger, table, out)
 }
 
 // Both statements, from their heads to the report at the front of the output; answers the report's length.
+#[tactic(auto, unfolding(crate::specs::Steps::reconciled_of))]
 pub(crate) fn run<A: Source, B: Source>(
     bank: &mut A,
     book: &mut B,
@@ -97,19 +77,8 @@ pub(crate) fn run<A: Source, B: Source>(
     ensures output { out.new ≡ output_of (reconciled_of A.Source.belongs B.Source.belongs (A.Source.meaning bank.old) (B.Source.meaning book.old) (length table.old) (length out.old)) out.old }
     ensures within { IfOk result (λ n. n ≤ length out.old) }
 {
-    let bank_head = bank.head();
-    let book_head = book.head();
-    let ledger = match open_for(&bank_head, &book_head, table) {
-        Ok(opened) => opened,
-        Err(why) => return Err(why),
-    };
-    let ledger = match take(ledger, bank, table) {
-        Ok(taken) => taken,
-        Err(why) => return Err(why),
-    };
-    let ledger = match take(ledger, book, table) {
-        Ok(taken) => taken,
-        Err(why) => return Err(why),
-    };
+    let ledger = open_for(&bank.head(), &book.head(), table)?;
+    let ledger = take(ledger, bank, table)?;
+    let ledger = take(ledger, book, table)?;
     finish(ledger, table, out)
 }

@@ -1,12 +1,11 @@
-use Rattle.std.proofs.Common.{Err, ap, ◌∙◌}
 use Rattle.reconcile.specs.Steps.{taken_by}
-use Rattle.reconcile.proofs.Denying.{handed_ok, handed_err}
+use Rattle.reconcile.proofs.Handing.{handed_ok, handed_err}
 use Rattle.reconcile.proofs.steps.take.Goals as goal
 
-pub returns-in-Ok : goal.returns-in-Ok
+pub returns-in_err-take : goal.returns-in_err-take
 unfolding taken_by
-returns-in-Ok g c = handed_ok _ _ _ _ _ _ _ c.in-Ok.ensures.answer c.in-Ok.ensures.table
+returns-in_err-take g c = handed_err _ _ _ _ c.args.table.now _ _ _ c.in_err-take.ensures.answer c.from_residual.ensures.1
 
-pub returns-in-Err : goal.returns-in-Err
+pub returns : goal.returns
 unfolding taken_by
-returns-in-Err g c = ap Err c.why_refused.ensures ∙ handed_err _ _ _ _ _ c.in-Err.ensures.answer
+returns g c = handed_ok _ _ _ _ _ _ _ c.in_ok-take.ensures.answer c.in_ok-take.ensures.table
