@@ -13,7 +13,7 @@ use ledger::ledger::Ledger;
 use std::iter::Enumerate;
 use std::{array, slice};
 
-// The line of an item, which is empty where the item is not outstanding.
+// The line of an item: nothing where the item is not outstanding, as the report is defined.
 fn open_row(number: usize, item: &Item) -> Line
     ensures { text_of result ≡ open_row number item.now }
 {
