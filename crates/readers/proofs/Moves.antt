@@ -1,0 +1,101 @@
+-- A reader that goes on to the next entry, and what it means then.
+use Rattle.std.proofs.Common.{◌≡◌, ℕ, ◌-◌, ◌≤◌, List, [], ◌∷◌, length, ℤ, ◌+ℤ◌, Some, None, Option, sym, ap, ◌∙◌, subst, arith, w64, SFits, to_z, of_z}
+use Rattle.std.proofs.lemmas.Int.{ints, to_z-of_z}
+use Rattle.domain.specs.declared.amount.Amount.{Amount}
+use Rattle.domain.specs.declared.entry.Entry.{Entry}
+use Rattle.source.specs.Statement.{Lawful, first, first_of, moved}
+use Rattle.source.proofs.Sums.{lawful_fits, lawful_moved}
+use Rattle.text.specs.declared.Lines.{Lines}
+use Rattle.text.specs.Left.{lines_left}
+use Rattle.readers.specs.declared.account.Account.{Account}
+use Rattle.readers.specs.declared.format.TheConstants.{LONGEST}
+use Rattle.readers.specs.declared.Reader.{Reader}
+use Rattle.readers.specs.Entries.{entries_of, Within}
+use Rattle.readers.specs.Whole.{meaning_of, Ready}
+
+-- signed numbers as the code adds them
+module _ (y r : ℤ) (a : Amount) (f : SFits w64 y) (g : SFits w64 (y +ℤ a.minor)) (e : r ≡ a.minor) where
+  read : to_z w64 (of_z w64 y) +ℤ to_z w64 (of_z w64 r) ≡ y +ℤ a.minor
+  read =
+      let h : SFits w64 a.minor = omega (arith, ints, a.within.0, a.within.1) in
+      rw (e, to_z-of_z w64 y f, to_z-of_z w64 a.minor h)
+
+  sum_fits : SFits w64 (to_z w64 (of_z w64 y) +ℤ to_z w64 (of_z w64 r))
+  sum_fits = rw read g
+
+  sum_is : to_z w64 (of_z w64 (to_z w64 (of_z w64 y) +ℤ to_z w64 (of_z w64 r))) ≡ y +ℤ a.minor
+  sum_is = rw read (to_z-of_z w64 (y +ℤ a.minor) g)
+
+module _ {F : Type 0} (stated : Account → ℕ × List ℕ → List (ℕ × List ℕ) → Option Entry) (r : Reader F) (ready : Ready stated r) (lines : Lines) (short : Within LONGEST (lines_left lines)) where
+  -- the entries in the lines that were left, and in those that are
+  abbrev before : List Entry
+  before = entries_of (stated r.account) (lines_left r.lines)
+
+  abbrev after : List Entry
+  after = entries_of (stated r.account) (lines_left lines)
+
+  abbrev ended : Reader F
+  ended = record { lines = lines; account = r.account; head = r.head; format = r.format }
+
+  module _ (e : before ≡ after) (none : after ≡ []) where
+    pub none_first : None ≡ first_of (meaning_of stated r)
+    unfolding meaning_of
+    none_first = ap first (sym (e ∙ none))
+
+    pub none_moves : meaning_of stated ended ≡ moved (meaning_of stated r)
+    unfolding meaning_of
+    none_moves = rw (e, none)
+
+    none_counts : r.head.count ≡ length (meaning_of stated ended).remaining
+    unfolding meaning_of
+    none_counts = ready.counted ∙ ap length e
+
+    pub none_ready : Ready stated ended
+    none_ready = record { short = short; counted = none_counts; lawful = subst Lawful (sym none_moves) (lawful_moved (meaning_of stated r) ready.lawful) }
+
+  module _ (x : Entry) (e : before ≡ x ∷ after) (minor : ℤ) (is : minor ≡ x.amount.minor) where
+    pub entry_first : Some x ≡ first_of (meaning_of stated r)
+    unfolding meaning_of
+    entry_first = ap first (sym e)
+
+    pub entry_some : 1 ≤ r.head.count
+    unfolding meaning_of
+    entry_some = omega (arith, ready.counted, ap length e)
+
+    reached_fits : SFits w64 r.head.reached
+    unfolding meaning_of
+    reached_fits = lawful_fits (meaning_of stated r) ready.lawful
+
+    entry_fits : SFits w64 (r.head.reached +ℤ x.amount.minor)
+    unfolding meaning_of
+    entry_fits = let f = lawful_fits (moved (meaning_of stated r)) (lawful_moved (meaning_of stated r) ready.lawful) in rw e at f
+
+    pub entry_adds : SFits w64 (to_z w64 (of_z w64 r.head.reached) +ℤ to_z w64 (of_z w64 minor))
+    entry_adds = sum_fits _ _ x.amount reached_fits entry_fits is
+
+    -- the reader one entry on, the balance that it has reached as the code adds it
+    abbrev onward : Reader F
+    onward = record {
+      lines = lines;
+      account = r.account;
+      head = record {
+        number = r.head.number;
+        opening_day = r.head.opening_day;
+        closing_day = r.head.closing_day;
+        reached = to_z w64 (of_z w64 (to_z w64 (of_z w64 r.head.reached) +ℤ to_z w64 (of_z w64 minor)));
+        closing = r.head.closing;
+        count = r.head.count - 1;
+      };
+      format = r.format;
+    }
+
+    pub entry_moves : meaning_of stated onward ≡ moved (meaning_of stated r)
+    unfolding meaning_of
+    entry_moves = let z = sum_is _ _ x.amount reached_fits entry_fits is in rw (e, z)
+
+    entry_counts : r.head.count - 1 ≡ length (meaning_of stated onward).remaining
+    unfolding meaning_of
+    entry_counts = omega (arith, ready.counted, ap length e)
+
+    pub entry_ready : Ready stated onward
+    entry_ready = record { short = short; counted = entry_counts; lawful = subst Lawful (sym entry_moves) (lawful_moved (meaning_of stated r) ready.lawful) }

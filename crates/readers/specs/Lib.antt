@@ -1,0 +1,4 @@
+pub mod Accounts
+pub mod Entries
+pub mod Tallies
+pub mod Whole

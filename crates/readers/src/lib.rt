@@ -1,0 +1,92 @@
+// The reader of any format: a text is refused as a whole, or is a source of its entries.
+#![tactic(auto)]
+
+ghost use Rattle.std.specs.Prelude.{◌≡◌};
+ghost use Rattle.text.specs.Left.{lines_left};
+ghost use Rattle.readers.specs.Entries.{Within, Sought};
+ghost use Rattle.readers.specs.Whole.{Made, Ready, meaning_of, read_of};
+
+pub mod account;
+pub mod format;
+
+use account::Account;
+use domain::entry::{Entry, Side};
+use domain::refusal::{Refusal, Refused};
+use format::{Format, LONGEST};
+use source::{Head, Source};
+use std::marker::PhantomData;
+use text::{Lines, lines_from, scan};
+
+// A statement whose text has been read to its end and not refused; its entries are read again, one by one, from the lines that
+// it has left.
+#[derive(Drop)]
+pub struct Reader<'a, F> {
+    lines: Lines<'a>,
+    account: Account,
+    head: Head,
+    format: PhantomData<F>,
+}
+
+// The first entry in the lines that are left, which are then those behind its line.
+fn seek<F: Format>(lines: &mut Lines<'_>, account: Account) -> Option<Entry>
+    requires { Within LONGEST (lines_left lines.old) }
+    ensures is { Sought (F.stated account) (lines_left lines.old) result (lines_left lines.new) }
+    ensures again { Within LONGEST (lines_left lines.new) }
+{
+    while let Some(line) = lines.next() {
+        if let Some(entry) = F::entry(account, line, *lines) {
+            return Some(entry);
+        }
+    }
+    None
+}
+
+impl<'a, F: Format> Reader<'a, F> {
+    // Reads a text as a statement of an account; or answers the refusal and the offset of its line.
+    #[tactic(auto, unfolding(crate::specs::Whole::read_of))]
+    pub fn read(text: &'a [u8], currency: &[u8], digits: u8) -> Result<Reader<'a, F>, Refused>
+        ensures { Made (read_of F.begun F.Scan.stepped F.Scan.complete F.said F.stated text.now currency.now digits) F.stated result }
+    {
+        let account = Account::new(currency, digits)?;
+        if text.len() > LONGEST {
+            return Err(Refused::from(Refusal::TooMuch));
+        }
+        let end = scan(F::begin(account), text)?;
+        Ok(Reader {
+            lines: lines_from(text, 0),
+            account,
+            head: F::head(end),
+            format: PhantomData,
+        })
+    }
+}
+
+impl<'a, F: Format> Source for Reader<'a, F> {
+    const SIDE: Side = F::SIDE;
+
+    ghost belongs = { F.SIDE };
+
+    ghost meaning = { meaning_of F.stated };
+
+    ghost ready = { Ready F.stated };
+
+    ghost lawful = { λ r ready. ready.lawful };
+
+    fn which() -> Side
+        ensures { result ≡ F.SIDE }
+    {
+        F::SIDE
+    }
+
+    #[tactic(auto, unfolding(crate::specs::Whole::meaning_of))]
+    fn head(&self) -> Head {
+        self.head
+    }
+
+    fn next(&mut self) -> Option<Entry> {
+        let entry = seek::<F>(&mut self.lines, self.account)?;
+        self.head.reached += entry.amount.minor();
+        self.head.count -= 1;
+        Some(entry)
+    }
+}
