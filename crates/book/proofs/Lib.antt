@@ -1,4 +1,1 @@
-pub mod Goings
-pub mod Entries
-pub mod Tallies
-pub mod Moves
+pub mod Sums

@@ -1,6 +1,8 @@
 -- What each line of a cash book leads to: the next state, or the refusal with the smallest number that fits.
 use Rattle.std.specs.Prelude.{ℕ, ◌+◌, Bool, true, false, cond, List, pos, ◌+ℤ◌, Some, None, Ok, Err, Option, Result, ◌==◌, nat_lt}
+use Rattle.domain.specs.declared.amount.Amount.{Amount}
 use Rattle.domain.specs.declared.currency.Currency.{Currency}
+use Rattle.domain.specs.declared.day.Day.{Day}
 use Rattle.domain.specs.declared.refusal.Refusal.{Refusal}
 use Rattle.domain.specs.declared.refusal.Refusal.TheVariants.{Form, Misplaced, NoSuchDay, BadAmount, BadCurrency, BadNumber, Unbalanced, WrongCount, TooMuch}
 use Rattle.domain.specs.Blanks.{zero_amount, day_zero}
@@ -48,6 +50,16 @@ abbrev pub is_own : Currency → Option Currency → Bool
 is_own own None = false
 is_own own (Some c) = same_bytes c.code own.code
 
+-- the states that an opening line, an entry's and a closing line lead to
+abbrev pub opened_state : State → Opening → Day → Amount → State
+opened_state s o day amount = record { currency = s.currency; stage = Within; number = o.number; opening_day = day; opening = amount; sum = amount.minor; count = 0; closing_day = s.closing_day; closing = s.closing }
+
+abbrev pub entered_state : State → Amount → State
+entered_state s amount = record { currency = s.currency; stage = s.stage; number = s.number; opening_day = s.opening_day; opening = s.opening; sum = s.sum +ℤ amount.minor; count = s.count + 1; closing_day = s.closing_day; closing = s.closing }
+
+abbrev pub closed_state : State → Day → Amount → State
+closed_state s day amount = record { currency = s.currency; stage = Done; number = s.number; opening_day = s.opening_day; opening = s.opening; sum = s.sum; count = s.count; closing_day = day; closing = amount }
+
 abbrev pub opened_of : State → Opening → Result State Refusal
 opened_of s o =
     demand (is_start s.stage) Misplaced
@@ -55,7 +67,7 @@ opened_of s o =
     given o.amount BadAmount (λ amount.
     demand (is_own s.currency o.currency) BadCurrency
     (demand (is_number o.number) BadNumber
-    (Ok (record { currency = s.currency; stage = Within; number = o.number; opening_day = day; opening = amount; sum = amount.minor; count = 0; closing_day = s.closing_day; closing = s.closing }))))))
+    (Ok (opened_state s o day amount))))))
 
 abbrev pub entered_of : State → Row → Result State Refusal
 entered_of s row =
@@ -64,7 +76,7 @@ entered_of s row =
     given row.entry_day NoSuchDay (λ day.
     given row.amount BadAmount (λ amount.
     demand (nat_lt s.count 4096) TooMuch
-    (Ok (record { currency = s.currency; stage = s.stage; number = s.number; opening_day = s.opening_day; opening = s.opening; sum = s.sum +ℤ amount.minor; count = s.count + 1; closing_day = s.closing_day; closing = s.closing }))))))
+    (Ok (entered_state s amount))))))
 
 abbrev pub closed_of : State → Closing → Result State Refusal
 closed_of s z =
@@ -73,7 +85,7 @@ closed_of s z =
     given z.amount BadAmount (λ amount.
     demand (same_int amount.minor s.sum) Unbalanced
     (demand (z.count == s.count) WrongCount
-    (Ok (record { currency = s.currency; stage = Done; number = s.number; opening_day = s.opening_day; opening = s.opening; sum = s.sum; count = s.count; closing_day = day; closing = amount }))))))
+    (Ok (closed_state s day amount))))))
 
 abbrev pub judged_of : State → Line → Result State Refusal
 judged_of s (Opens o) = opened_of s o

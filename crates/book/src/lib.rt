@@ -1,4 +1,4 @@
-// The cash book: a text is refused as a whole, or is a source of its entries.
+// The cash book as a format: what each of its lines leads to, and the entry that it states.
 #![tactic(auto)]
 
 pub mod cash_book;

@@ -1,6 +1,6 @@
-ghost use Rattle.std.specs.Prelude.{◌≡◌, ◌+ℤ◌, FitsSigned};
-ghost use Rattle.std.specs.Int.{w64};
-ghost use Rattle.book.specs.Judging.{is_own, opened_of, entered_of, closed_of, judged_of, step_of, is_done, begin as begun};
+ghost use Rattle.std.specs.Prelude.{◌≡◌};
+ghost use Rattle.domain.specs.Limits.{is_number};
+ghost use Rattle.book.specs.Judging.{begin as begun, opened_of, entered_of, closed_of, step_of, is_done};
 ghost use Rattle.book.specs.Sizes.{Sound};
 
 use book_lines::line::{Closing, Line, Opening, Row};
@@ -11,8 +11,11 @@ use domain::day::Day;
 use domain::refusal::Refusal;
 use text::Reading;
 
+// How many entries a cash book may have.
+const MOST_ENTRIES: usize = 4096;
+
 // The opening line comes first, then the entries, then the closing line, and nothing after it.
-#[derive(Clone, Copy)]
+#[derive(Clone, Copy, PartialEq, Eq)]
 pub enum Stage {
     Start,
     Within,
@@ -51,33 +54,25 @@ pub(crate) fn begin(currency: Currency) -> State
     }
 }
 
-// Whether an opening line states three capitals, and the account's.
-fn is_own(own: Currency, stated: Option<Currency>) -> bool
-    ensures { result ≡ is_own own stated }
+fn is_number(number: u32) -> bool
+    ensures { result ≡ is_number number }
 {
-    match stated {
-        Some(currency) => currency == own,
-        None => false,
-    }
+    (1..=99_999).contains(&number)
 }
 
 // What an opening line leads to. Here and below the tests stand in the order of the refusals' numbers.
 fn opened(state: State, line: Opening) -> Result<State, Refusal>
     ensures { result ≡ opened_of state line }
 {
-    if !matches!(state.stage, Stage::Start) {
+    if state.stage != Stage::Start {
         return Err(Refusal::Misplaced);
     }
-    let Some(opening_day) = line.day else {
-        return Err(Refusal::NoSuchDay);
-    };
-    let Some(opening) = line.amount else {
-        return Err(Refusal::BadAmount);
-    };
-    if !is_own(state.currency, line.currency) {
+    let opening_day = line.day.ok_or(Refusal::NoSuchDay)?;
+    let opening = line.amount.ok_or(Refusal::BadAmount)?;
+    if line.currency != Some(state.currency) {
         return Err(Refusal::BadCurrency);
     }
-    if line.number < 1 || 99_999 < line.number {
+    if !is_number(line.number) {
         return Err(Refusal::BadNumber);
     }
     Ok(State {
@@ -91,36 +86,22 @@ fn opened(state: State, line: Opening) -> Result<State, Refusal>
     })
 }
 
-// A balance with an amount added.
-pub(crate) fn plus(balance: i64, amount: Amount) -> i64
-    requires { FitsSigned w64 (balance +ℤ amount.minor) }
-    ensures { result ≡ balance +ℤ amount.minor }
-{
-    balance + amount.minor()
-}
-
 // What the line of an entry or a reversal leads to.
 fn entered(state: State, line: Row) -> Result<State, Refusal>
     requires { Sound state }
     ensures { result ≡ entered_of state line }
 {
-    if !matches!(state.stage, Stage::Within) {
+    if state.stage != Stage::Within {
         return Err(Refusal::Misplaced);
     }
-    let Some(_) = line.value_day else {
-        return Err(Refusal::NoSuchDay);
-    };
-    let Some(_) = line.entry_day else {
-        return Err(Refusal::NoSuchDay);
-    };
-    let Some(amount) = line.amount else {
-        return Err(Refusal::BadAmount);
-    };
-    if state.count >= 4096 {
+    let _ = line.value_day.ok_or(Refusal::NoSuchDay)?;
+    let _ = line.entry_day.ok_or(Refusal::NoSuchDay)?;
+    let amount = line.amount.ok_or(Refusal::BadAmount)?;
+    if state.count >= MOST_ENTRIES {
         return Err(Refusal::TooMuch);
     }
     Ok(State {
-        sum: plus(state.sum, amount),
+        sum: state.sum + amount.minor(),
         count: state.count + 1,
         ..state
     })
@@ -130,15 +111,11 @@ fn entered(state: State, line: Row) -> Result<State, Refusal>
 fn closed(state: State, line: Closing) -> Result<State, Refusal>
     ensures { result ≡ closed_of state line }
 {
-    if !matches!(state.stage, Stage::Within) {
+    if state.stage != Stage::Within {
         return Err(Refusal::Misplaced);
     }
-    let Some(closing_day) = line.day else {
-        return Err(Refusal::NoSuchDay);
-    };
-    let Some(closing) = line.amount else {
-        return Err(Refusal::BadAmount);
-    };
+    let closing_day = line.day.ok_or(Refusal::NoSuchDay)?;
+    let closing = line.amount.ok_or(Refusal::BadAmount)?;
     if closing.minor() != state.sum {
         return Err(Refusal::Unbalanced);
     }
@@ -153,18 +130,6 @@ fn closed(state: State, line: Closing) -> Result<State, Refusal>
     })
 }
 
-// What a line that has its form leads to.
-fn judged(state: State, line: Line) -> Result<State, Refusal>
-    requires { Sound state }
-    ensures { result ≡ judged_of state line }
-{
-    match line {
-        Line::Opens(opening) => opened(state, opening),
-        Line::Enters(row) => entered(state, row),
-        Line::Closes(closing) => closed(state, closing),
-    }
-}
-
 impl Reading for State {
     ghost stepped = { step_of };
 
@@ -173,13 +138,14 @@ impl Reading for State {
     ghost sound = { Sound };
 
     fn step(self, line: &[u8]) -> Result<State, Refusal> {
-        match line_in(line) {
-            Some(stated) => judged(self, stated),
-            None => Err(Refusal::Form),
+        match line_in(line).ok_or(Refusal::Form)? {
+            Line::Opens(opening) => opened(self, opening),
+            Line::Enters(row) => entered(self, row),
+            Line::Closes(closing) => closed(self, closing),
         }
     }
 
     fn is_complete(&self) -> bool {
-        matches!(self.stage, Stage::Done)
+        self.stage == Stage::Done
     }
 }

@@ -1,13 +1,12 @@
-use Rattle.std.proofs.Common.{Option, ap, ◌∙◌}
-use Rattle.domain.specs.declared.refusal.Refusal.TheVariants.{Form}
-use Rattle.book_lines.specs.declared.line.Line.{Line}
-use Rattle.book.specs.Judging.{given, judged_of}
-use Rattle.book.proofs.Goings.{judged_sound}
+use Rattle.std.proofs.Common.{rules}
+use Rattle.book.proofs.Sums.{step_sound}
 use Rattle.book.proofs.state.StateReading.step.Goals as goal
 
-pub returns-in-Some : goal.returns-in-Some
-returns-in-Some c =
-    record {
-      is = c.judged.ensures ∙ ap (λ (o : Option Line). given o Form (judged_of c.args.self)) c.in-Some.ensures;
-      again = judged_sound c.args.self c.in-Some.stated c.requires c.judged.result c.judged.ensures;
-    }
+pub returns-in-Opens-clause-again : goal.returns-in-Opens-clause-again
+returns-in-Opens-clause-again c = step_sound c.args.self c.args.line.now _ c.requires (search rules)
+
+pub returns-in-Enters-clause-again : goal.returns-in-Enters-clause-again
+returns-in-Enters-clause-again c = step_sound c.args.self c.args.line.now _ c.requires (search rules)
+
+pub returns-in-Closes-clause-again : goal.returns-in-Closes-clause-again
+returns-in-Closes-clause-again c = step_sound c.args.self c.args.line.now _ c.requires (search rules)
