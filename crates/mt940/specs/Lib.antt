@@ -1,2 +1,4 @@
 pub mod Entries
+pub mod Laws
+pub mod Tallies
 pub mod Whole

@@ -1,4 +1,5 @@
-// The reader of MT940: a text is refused as a whole, or is a source of its entries.
+// MT940 as a format: the entry that a line states, and the place of its lines.
 #![tactic(auto)]
 
+mod place;
 pub mod reader;

@@ -1,4 +1,0 @@
-pub mod Places
-pub mod Comings
-pub mod Keeps
-pub mod Moves
