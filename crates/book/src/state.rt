@@ -1,5 +1,4 @@
 ghost use Rattle.std.specs.Prelude.{◌≡◌};
-ghost use Rattle.domain.specs.Limits.{is_number};
 ghost use Rattle.book.specs.Judging.{begin as begun, opened_of, entered_of, closed_of, step_of, is_done};
 ghost use Rattle.book.specs.Sizes.{Sound};
 
@@ -8,11 +7,9 @@ use book_lines::reading::line_in;
 use domain::amount::Amount;
 use domain::currency::Currency;
 use domain::day::Day;
+use domain::limits::{MOST_ENTRIES, is_number};
 use domain::refusal::Refusal;
 use text::Reading;
-
-// How many entries a cash book may have.
-const MOST_ENTRIES: usize = 4096;
 
 // The opening line comes first, then the entries, then the closing line, and nothing after it.
 #[derive(Clone, Copy, PartialEq, Eq)]
@@ -52,12 +49,6 @@ pub(crate) fn begin(currency: Currency) -> State
         closing_day: Day::FIRST,
         closing: Amount::ZERO,
     }
-}
-
-fn is_number(number: u32) -> bool
-    ensures { result ≡ is_number number }
-{
-    (1..=99_999).contains(&number)
 }
 
 // What an opening line leads to. Here and below the tests stand in the order of the refusals' numbers.

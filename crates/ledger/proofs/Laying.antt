@@ -5,7 +5,7 @@ use Rattle.domain.specs.declared.entry.Side.{Side}
 use Rattle.domain.specs.declared.entry.Entry.{Entry}
 use Rattle.domain.specs.declared.entry.Item.{Item}
 use Rattle.source.specs.Statement.{Statement, first, moved, rest}
-use Rattle.ledger.specs.Intakes.{outstanding_item}
+use Rattle.domain.specs.Items.{outstanding_item}
 
 -- a table of which the first positions hold what was laid, with what remains to be laid behind them
 abbrev pub with_rest : Side → List Item → ℕ → List Entry → List Item

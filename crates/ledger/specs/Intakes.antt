@@ -10,6 +10,7 @@ use Rattle.domain.specs.declared.refusal.Refusal.{Refusal}
 use Rattle.domain.specs.declared.refusal.Refusal.TheVariants.{BadNumber, TooMuch, BadTable, NoRoom, PostingUnbalanced}
 use Rattle.domain.specs.Blanks.{blank}
 use Rattle.domain.specs.Entries.{same_int}
+use Rattle.domain.specs.Items.{outstanding_item}
 use Rattle.domain.specs.Limits.{is_number}
 use Rattle.ledger.specs.declared.ledger.Ledger.{Ledger}
 use Rattle.ledger.specs.declared.intake.Intake.{Intake}
@@ -40,10 +41,6 @@ enter_denied i n =
     refused_if (nat_le 4096 (entered_count i)) TooMuch
     (refused_if (bad_intake n i) BadTable
     (refused_if (nat_le n i.filled) NoRoom None))
-
--- an entry as an outstanding item of a side
-abbrev pub outstanding_item : Side → Entry → Item
-outstanding_item side e = record { entry = e; side = side; group = 0 }
 
 -- The total stays at the end of its range where it would leave it; 4,096 amounts never lead there.
 abbrev pub entered : Intake → Entry → Intake

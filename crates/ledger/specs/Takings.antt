@@ -10,7 +10,7 @@ use Rattle.source.specs.Statement.{Statement}
 use Rattle.ledger.specs.declared.ledger.Ledger.{Ledger}
 use Rattle.ledger.specs.Denials.{refused_if, bad_table}
 use Rattle.ledger.specs.Records.{side_of, follow_denied, settled}
-use Rattle.ledger.specs.Intakes.{outstanding_item}
+use Rattle.domain.specs.Items.{outstanding_item}
 
 -- The balance reached is the opening, so one that is no amount is no side's closing. A source's number is one, and its entries are few enough.
 abbrev pub room_denied : Ledger → ℕ → Side → ℕ → ℤ → ℕ → ℕ → Option Refusal

@@ -5,15 +5,13 @@ ghost use Rattle.ledger.specs.Intakes.{begin_denied, begun, enter_denied, entere
 use crate::denied::Denied;
 use crate::ledger::Ledger;
 use crate::record::Heading;
-use crate::table::{check_table, outstanding};
+use crate::table::check_table;
 use domain::amount::Amount;
 use domain::day::Day;
 use domain::entry::{Entry, Item, Side};
+use domain::limits::{MOST_ENTRIES, is_number};
 use domain::refusal::Refusal;
 use matching::clearing::clear;
-
-// The most entries that an intake may have.
-const MOST_ENTRIES: usize = 4096;
 
 // A ledger with an open intake, which takes only entries, a posting or a withdrawal.
 // It has no `Drop`: an intake that was begun is posted or withdrawn, and the check refuses to let one go.
@@ -31,7 +29,7 @@ impl Ledger {
     fn check_begin(&self, n: usize, heading: &Heading, opening: Amount) -> Result<(), Refusal>
         ensures { result ≡ answered (begin_denied self.now n heading.now.side heading.now.number heading.now.closing_day opening) tt }
     {
-        if !(1..=99_999).contains(&heading.number) {
+        if !is_number(heading.number) {
             return Err(Refusal::BadNumber);
         }
         self.check_table(n)?;
@@ -109,7 +107,7 @@ impl Intake {
         ensures table { table.new ≡ unless (enter_denied self.old (length table.old)) (entered_table self.old entry table.old) table.old }
     {
         self.check_enter(table.len())?;
-        table[self.filled] = outstanding(entry, self.heading.side);
+        table[self.filled] = Item::new(entry, self.heading.side);
         self.filled += 1;
         // From an amount, 4,096 amounts never lead to the end of the range.
         self.reached = self.reached.saturating_add(entry.amount.minor());

@@ -1,11 +1,9 @@
 ghost use Rattle.std.specs.Prelude.{◌≡◌, ◌≤◌, OnOk};
 ghost use Rattle.ledger.specs.Denials.{answered, table_denied};
-ghost use Rattle.ledger.specs.Intakes.{outstanding_item};
 
 use crate::ledger::Ledger;
-use domain::entry::{Entry, Item, Side};
+use domain::limits::MOST_ITEMS;
 use domain::refusal::Refusal;
-use matching::grouping::MOST_ITEMS;
 
 // Refuses a table of `n` positions that does not serve where `used` are in use.
 pub(crate) fn check_table(n: usize, used: usize) -> Result<(), Refusal>
@@ -27,16 +25,5 @@ impl Ledger {
         ensures few { OnOk result (n ≤ 8192) }
     {
         check_table(n, self.used)
-    }
-}
-
-// An entry of a side, outstanding.
-pub(crate) fn outstanding(entry: Entry, side: Side) -> Item
-    ensures { result ≡ outstanding_item side entry }
-{
-    Item {
-        entry,
-        side,
-        group: 0,
     }
 }

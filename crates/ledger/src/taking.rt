@@ -1,13 +1,12 @@
 ghost use Rattle.std.specs.Prelude.{◌≡◌, ◌+◌, ◌≤◌, length, map, Some, OnOk};
 ghost use Rattle.domain.specs.declared.refusal.Refusal.{Refusal as Reason};
 ghost use Rattle.ledger.specs.Denials.{answered, handed, unless};
-ghost use Rattle.ledger.specs.Intakes.{outstanding_item};
+ghost use Rattle.domain.specs.Items.{outstanding_item};
 ghost use Rattle.ledger.specs.Takings.{room_denied, take_denied, taken_ledger, laid, spent};
 
 use crate::denied::Denied;
 use crate::ledger::Ledger;
 use crate::record::Heading;
-use crate::table::outstanding;
 use domain::entry::Item;
 use domain::refusal::Refusal;
 use source::{Head, Source};
@@ -24,7 +23,7 @@ fn lay<S: Source>(source: &mut S, positions: &mut [Item])
     // A source is no iterator, so each position fetches its entry; as many remain as there are positions.
     for position in positions.iter_mut() {
         if let Some(entry) = source.next() {
-            *position = outstanding(entry, side);
+            *position = Item::new(entry, side);
         }
     }
 }

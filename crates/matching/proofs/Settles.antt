@@ -11,7 +11,8 @@ use Rattle.domain.specs.declared.entry.Entry.{Entry}
 use Rattle.domain.specs.declared.entry.Item.{Item}
 use Rattle.domain.specs.Blanks.{blank}
 use Rattle.domain.specs.Entries.{same_side, is_reversal}
-use Rattle.matching.specs.Grouping.{Finder, outstanding, open_on, item_at, regroup, regroup_at, joined_at, joined_with, paired_up_to, highest_below, if_few}
+use Rattle.matching.specs.Grouping.{Finder, item_at, regroup, regroup_at, joined_at, joined_with, paired_up_to, highest_below, if_few}
+use Rattle.domain.specs.Items.{outstanding, open_on}
 use Rattle.matching.specs.Matching.{partners, partner_of, matched, NoneToPair}
 use Rattle.matching.specs.Folding.{open_reversal, undoes, original_of, folded, NoneToFold}
 

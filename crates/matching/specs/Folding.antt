@@ -3,7 +3,8 @@ use Rattle.std.specs.Prelude.{◌≡◌, ℕ, ◌<◌, Bool, true, cond, not, �
 use Rattle.domain.specs.declared.entry.Item.{Item}
 use Rattle.domain.specs.Entries.{same_int, is_reversal}
 use Rattle.domain.specs.Keys.{is_blank_key, same_key}
-use Rattle.matching.specs.Grouping.{outstanding, open_on, item_at, highest_below, paired_up_to, pairs_up_to}
+use Rattle.matching.specs.Grouping.{item_at, highest_below, paired_up_to, pairs_up_to}
+use Rattle.domain.specs.Items.{outstanding, open_on}
 
 abbrev pub open_reversal : Item → Bool
 open_reversal x = outstanding x && is_reversal x.entry.kind

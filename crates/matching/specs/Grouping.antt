@@ -4,15 +4,6 @@ use Rattle.std.specs.Prelude.{◌≡◌, ◌<◌, ℕ, zero, suc, ◌+◌, min, 
 use Rattle.domain.specs.declared.entry.Side.{Side}
 use Rattle.domain.specs.declared.entry.Item.{Item}
 use Rattle.domain.specs.Blanks.{blank}
-use Rattle.domain.specs.Entries.{same_side}
-
--- group 0 means outstanding
-abbrev pub outstanding : Item → Bool
-outstanding x = x.group == 0
-
--- outstanding, and of this side
-abbrev pub open_on : Side → Item → Bool
-open_on s x = same_side x.side s && outstanding x
 
 -- the item at a position
 abbrev pub item_at : List Item → ℕ → Item

@@ -3,7 +3,8 @@ use Rattle.std.specs.Prelude.{◌≡◌, ℕ, ◌<◌, Bool, true, cond, ◌&&�
 use Rattle.domain.specs.declared.entry.Side.TheVariants.{Bank, Book}
 use Rattle.domain.specs.declared.entry.Entry.{Entry}
 use Rattle.domain.specs.declared.entry.Item.{Item}
-use Rattle.matching.specs.Grouping.{open_on, item_at, paired_up_to, pairs_up_to}
+use Rattle.matching.specs.Grouping.{item_at, paired_up_to, pairs_up_to}
+use Rattle.domain.specs.Items.{open_on}
 
 -- an outstanding book item whose entry is permitted
 abbrev pub partners : (Entry → Bool) → Item → Bool

@@ -1,19 +1,12 @@
 ghost use Rattle.std.specs.Prelude.{◌≡◌, ℕ, ◌+◌, ◌^◌, ◌<◌, ◌≤◌, min, length, Some, position, IfSome};
-ghost use Rattle.matching.specs.Grouping.{Finder, FindsBy, open_on, joined_at, highest_below, if_few, Grouped};
+ghost use Rattle.matching.specs.Grouping.{Finder, FindsBy, joined_at, highest_below, if_few, Grouped};
+ghost use Rattle.domain.specs.Items.{open_on};
 ghost use Rattle.matching.specs.Matching.{partners, partner_of, matched, matches as match_count, NoneToPair};
 ghost use Rattle.matching.specs.Folding.{open_reversal, undoes as reverses, original_of, folded, folds as fold_count, NoneToFold};
 
 use crate::rule::MatchRule;
 use domain::entry::{Entry, Item, Kind, Side};
-
-// The most positions that an item table may have.
-pub const MOST_ITEMS: usize = 8192;
-
-fn is_open(x: &Item, side: Side) -> bool
-    ensures { result ≡ open_on side x.now }
-{
-    x.side == side && x.group == 0
-}
+use domain::limits::MOST_ITEMS;
 
 // Puts two items into a group of their own, which takes the smaller of their numbers.
 fn join(items: &mut [Item], i: usize, j: usize)
@@ -52,7 +45,7 @@ fn join_each<F: Fn(&[Item], usize) -> Option<usize>>(items: &mut [Item], choose:
 fn is_partner<R: MatchRule>(x: &Item, bank: &Entry, rule: &R) -> bool
     ensures { result ≡ partners (R.MatchRule.permits rule.now bank.now) x.now }
 {
-    is_open(x, Side::Book) && rule.may_pair(bank, &x.entry)
+    x.is_open_on(Side::Book) && rule.may_pair(bank, &x.entry)
 }
 
 // The lowest position of a partner for a bank entry.
@@ -68,7 +61,7 @@ fn partner_of<R: MatchRule>(items: &[Item], i: usize, rule: &R) -> Option<usize>
     ensures { result ≡ partner_of (R.MatchRule.permits rule.now) items.now i }
 {
     let x = &items[i];
-    if !is_open(x, Side::Bank) {
+    if !x.is_open_on(Side::Bank) {
         return None;
     }
     lowest_partner(items, &x.entry, rule)
@@ -87,7 +80,7 @@ pub fn match_all<R: MatchRule>(items: &mut [Item], rule: &R) -> usize
 fn is_open_reversal(x: &Item) -> bool
     ensures { result ≡ open_reversal x.now }
 {
-    x.group == 0 && x.entry.kind == Kind::Reversal
+    x.is_outstanding() && x.entry.kind == Kind::Reversal
 }
 
 // Whether this is an outstanding ordinary item that the reversal undoes.
@@ -95,7 +88,7 @@ fn undoes(reversal: &Item, x: &Item) -> bool
     ensures { result ≡ reverses reversal.now x.now }
 {
     let key = reversal.entry.key;
-    is_open(x, reversal.side)
+    x.is_open_on(reversal.side)
         && x.entry.kind == Kind::Ordinary
         && !key.is_blank()
         && key == x.entry.key

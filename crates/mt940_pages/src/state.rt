@@ -8,6 +8,7 @@ use domain::amount::Amount;
 use domain::currency::Currency;
 use domain::day::Day;
 use domain::digits::Digits;
+use domain::limits::{MOST_ENTRIES, is_number};
 use domain::refusal::Refusal;
 use mt940_cuts::cutting::cut;
 use mt940_cuts::slices::is_sized;
@@ -16,9 +17,6 @@ use mt940_fields::balance::{Balance, balance_in, balance_mark};
 use mt940_fields::movement::movement_in;
 use mt940_fields::number::{PageNumber, numbers};
 use text::{Reading, is_formed};
-
-// How many entries a statement may have.
-const MOST_ENTRIES: usize = 4096;
 
 // What has been read: the account's currency and digits, where in its page the reader stands, the statement's number
 // and the pages that have come, its opening, the last closing, how many entries have come, and their amounts added.
@@ -90,7 +88,7 @@ impl State {
     fn follows_on(self, next: PageNumber) -> bool
         ensures { result ≡ next_page self next.number next.page }
     {
-        (1..=99_999).contains(&next.number)
+        is_number(next.number)
             && self.page.checked_add(1) == Some(next.page)
             && (next.page == 1 || next.number == self.number)
     }

@@ -5,18 +5,15 @@ use Rattle.std.specs.Fmt.{signed_decimal}
 use Rattle.domain.specs.declared.entry.Item.{Item}
 use Rattle.domain.specs.declared.entry.Side.{Side}
 use Rattle.domain.specs.declared.entry.Side.TheVariants.{Bank, Book}
-use Rattle.domain.specs.Entries.{same_side}
+use Rattle.domain.specs.Items.{open_on}
 use Rattle.report.specs.Rows.{row}
 
-abbrev pub is_open : Side → Item → Bool
-is_open s x = same_side s x.side && x.group == 0
-
 abbrev pub open_count : Side → List Item → ℕ
-open_count s xs = count_by (is_open s) xs
+open_count s xs = count_by (open_on s) xs
 
 abbrev pub open_sum : Side → List Item → ℤ
 open_sum s [] = pos 0
-open_sum s (x ∷ xs) = cond (is_open s x) x.entry.amount.minor (pos 0) +ℤ open_sum s xs
+open_sum s (x ∷ xs) = cond (open_on s x) x.entry.amount.minor (pos 0) +ℤ open_sum s xs
 
 -- T: open items and their sum, bank then book
 abbrev pub total_row : List Item → List ℕ

@@ -1,7 +1,7 @@
 use Rattle.std.proofs.Common.{◌≡◌, ◌+◌, ◌<◌, length, set, sym, ap, ◌∙◌, arith}
 use Rattle.domain.specs.declared.entry.Item.{Item}
 use Rattle.domain.specs.declared.entry.Side.{Side}
-use Rattle.ledger.specs.Intakes.{outstanding_item}
+use Rattle.domain.specs.Items.{outstanding_item}
 use Rattle.ledger.specs.Takings.{spent}
 use Rattle.ledger.proofs.Laying.{fetched, laid_all, laid_more, none_left}
 use Rattle.ledger.proofs.taking.lay.Goals as goal
@@ -20,7 +20,7 @@ loop-position-preserved g c =
           let e = w.in-Some.entry in
           let split = fetched before after e w.in-Some.ensures.first w.in-Some.ensures.moves in
           let long : length before.remaining ≡ length after.remaining + 1 = ap length split ∙ omega arith in
-          let laid = w.positions-is ∙ ap (λ (x : Item). set ys n x) (w.outstanding.ensures ∙ ap (λ (side : Side). outstanding_item side e) c.which-side.ensures) in
+          let laid = w.positions-is ∙ ap (λ (x : Item). set ys n x) (w.new.ensures ∙ ap (λ (side : Side). outstanding_item side e) c.which-side.ensures) in
           record {
             ready = w.in-Some.ensures.again;
             room = omega (arith, long);

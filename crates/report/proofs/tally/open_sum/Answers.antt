@@ -1,7 +1,7 @@
 use Rattle.std.proofs.Common.{sym, ◌∙◌, arith}
 use Rattle.std.proofs.lemmas.Int.{ints}
 use Rattle.report.proofs.Tallying.{sum_open, sum_closed}
-use Rattle.report.proofs.tally.open_sum.Goals.{then-is_open, else-is_open}
+use Rattle.report.proofs.tally.open_sum.Goals.{then-is_open_on, else-is_open_on}
 use Rattle.report.proofs.tally.open_sum.Goals as goal
 
 pub loop-item-preserved : goal.loop-item-preserved
@@ -11,11 +11,11 @@ loop-item-preserved c =
     let i = c.loop-item.item-index in
     let x = c.item-item.result in
     let w = x.entry.amount.within in
-    elim c.if-is_open.branch [
-      | then-is_open b ↦
-          let e = sum_open s xs i x c.loop-item-test.true c.item-item.is (sym c.is_open.ensures ∙ b.if-is_open.true) in
+    elim c.if-is_open_on.branch [
+      | then-is_open_on b ↦
+          let e = sum_open s xs i x c.loop-item-test.true c.item-item.is (sym c.is_open_on.ensures ∙ b.if-is_open_on.true) in
           (omega (arith, ints), omega (arith, ints), omega (arith, ints))
-      | else-is_open b ↦
-          let e = sum_closed s xs i x c.loop-item-test.true c.item-item.is (sym c.is_open.ensures ∙ b.if-is_open.false) in
+      | else-is_open_on b ↦
+          let e = sum_closed s xs i x c.loop-item-test.true c.item-item.is (sym c.is_open_on.ensures ∙ b.if-is_open_on.false) in
           (omega (arith, ints), omega (arith, ints), omega (arith, ints))
     ]
