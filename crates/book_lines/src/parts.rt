@@ -5,7 +5,8 @@ ghost use Rattle.book_lines.specs.Left.{fields_left};
 
 use text::find;
 
-// The fields of a line, one by one: what stands between its commas. (An array of all N, by a const parameter, gets no proof: the borrow checker covers no array of references whose length is a parameter.)
+// The fields of a line, one by one: what stands between its commas.
+// They come in no array `[&[u8]; N]`, which was tried: code over an array of references whose length is a const parameter gets no proof.
 #[derive(Clone, Copy)]
 pub(crate) struct Fields<'a> {
     // From the next field on; none behind the last.
