@@ -3,7 +3,6 @@
 
 use domain::blank::blank;
 use domain::entry::Item;
-use domain::refusal::Refusal;
 use reconcile::reconcile;
 use std::io::{Read, Write};
 use std::{fs, io};
@@ -26,11 +25,6 @@ fn load(rt: &HostRuntime, name: &str) -> io::Result<Vec<u8>> {
     }
 }
 
-fn print_refused(rt: &HostRuntime, why: Refusal, offset: usize) -> io::Result<()> {
-    let number = u8::from(why);
-    println!(rt; "REFUSED,{number},{offset}")
-}
-
 fn main(rt: HostRuntime) -> io::Result<()> {
     let bank = load(&rt, "bank.txt")?;
     let book = load(&rt, "book.txt")?;
@@ -38,6 +32,6 @@ fn main(rt: HostRuntime) -> io::Result<()> {
     let mut out: Vec<u8> = vec![in rt.alloc(); 0; 32_768]?;
     match reconcile(&bank, &book, &mut table, &mut out) {
         Ok(n) => rt.stdout().write_all(&out[0..n]),
-        Err((why, offset)) => print_refused(&rt, why, offset),
+        Err(refused) => println!(rt; "{refused}"),
     }
 }

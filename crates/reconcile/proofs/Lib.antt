@@ -1,2 +1,2 @@
 pub mod Handing
-pub mod Reading
+pub mod Outputs
