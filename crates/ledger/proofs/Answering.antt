@@ -1,5 +1,5 @@
 -- What is known of a denial by what a check answered.
-use Rattle.std.proofs.Common.{◌≡◌, ℕ, ◌+◌, nat_lt, Bool, true, false, not, ℤ, Some, None, Ok, Err, Option, refl, sym, ap, ◌∙◌}
+use Rattle.std.proofs.Common.{◌≡◌, ℕ, ◌+◌, nat_lt, Bool, true, false, not, ℤ, Some, None, Ok, Err, Option, Result, refl, sym, ap, ◌∙◌}
 use Rattle.std.proofs.lemmas.Bool.{cond-false}
 use Rattle.domain.specs.Limits.{is_number}
 use Rattle.domain.specs.declared.amount.Amount.{Amount}
@@ -8,8 +8,9 @@ use Rattle.domain.specs.declared.entry.Side.{Side}
 use Rattle.domain.specs.declared.refusal.Refusal.{Refusal}
 use Rattle.domain.specs.declared.refusal.Refusal.TheVariants.{BadTable, NoRoom}
 use Rattle.ledger.specs.declared.ledger.Ledger.{Ledger}
+use Rattle.ledger.specs.declared.denied.Denied.{Denied}
 use Rattle.ledger.specs.Denials.{answered, bad_table, handed, refused_if, table_denied, unless}
-use Rattle.ledger.specs.Records.{side_of, follow_denied}
+use Rattle.ledger.specs.Records.{if_ok, side_of, follow_denied}
 use Rattle.ledger.specs.Intakes.{begin_denied}
 use Rattle.source.specs.declared.Head.{Head}
 use Rattle.source.specs.Statement.{Statement, HeadOf}
@@ -24,18 +25,19 @@ pub stopped : {X : Type 0} (o : Option Refusal) (why : Refusal) (x : X) → Err 
 stopped None why x e = cc
 stopped (Some w) why x e = let s : why ≡ w = cc in ap Some (sym s)
 
--- what a call leaves and gives back that stopped, or went on
-pub handed_stopped : {A X Y : Type 0} (o : Option Refusal) (why : Refusal) (a : A) (x : X) (y : Y) → Err why ≡ answered o a → Err (record { given = y; why = why }) ≡ handed o x y
-handed_stopped o why a x y e = ap (λ (p : Option Refusal). handed p x y) (sym (stopped o why a e))
+-- what is left, by the answer
+pub unless_by : {X : Type 0} (o : Option Refusal) (new old : X) → unless o new old ≡ if_ok (answered o (tt {0})) new old
+unless_by None new old = refl
+unless_by (Some why) new old = refl
 
-pub handed_passed : {A X Y : Type 0} (o : Option Refusal) (a b : A) (x : X) (y : Y) → Ok a ≡ answered o b → Ok x ≡ handed o x y
-handed_passed o a b x y e = ap (λ (p : Option Refusal). handed p x y) (sym (passed o a b e))
+-- what is given back, by the answer
+abbrev pub given_back : {X Y : Type 0} → Result (Unit {0}) Refusal → X → Y → Result X (Denied Y)
+given_back (Ok u) x y = Ok x
+given_back (Err why) x y = Err (record { given = y; why = why })
 
-pub unless_stopped : {A X : Type 0} (o : Option Refusal) (why : Refusal) (a : A) (new old : X) → Err why ≡ answered o a → old ≡ unless o new old
-unless_stopped o why a new old e = ap (λ (p : Option Refusal). unless p new old) (sym (stopped o why a e))
-
-pub unless_passed : {A X : Type 0} (o : Option Refusal) (a b : A) (new old : X) → Ok a ≡ answered o b → new ≡ unless o new old
-unless_passed o a b new old e = ap (λ (p : Option Refusal). unless p new old) (sym (passed o a b e))
+pub handed_by : {X Y : Type 0} (o : Option Refusal) (x : X) (y : Y) → handed o x y ≡ given_back (answered o (tt {0})) x y
+handed_by None x y = refl
+handed_by (Some why) x y = refl
 
 -- behind a table that serves, the rest decides
 pub table_passed : (n used : ℕ) (rest : Option Refusal) → table_denied n used ≡ None → refused_if (bad_table n used) BadTable rest ≡ rest

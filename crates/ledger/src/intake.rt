@@ -49,6 +49,7 @@ impl Ledger {
     }
 
     // Begins an intake of a statement, which must follow the side's last one. What is given is listed here, as the rules list it.
+    #[tactic(auto, using(crate::proofs::Answering::handed_by))]
     pub fn begin(
         self,
         table: &[Item],
@@ -101,6 +102,7 @@ impl Intake {
     }
 
     // Adds one entry, outstanding, at the next position.
+    #[tactic(auto, using(crate::proofs::Answering::unless_by))]
     pub fn enter(&mut self, table: &mut [Item], entry: Entry) -> Result<(), Refusal>
         ensures answer { result ≡ answered (enter_denied self.old (length table.old)) tt }
         ensures intake { self.new ≡ unless (enter_denied self.old (length table.old)) (entered self.old entry) self.old }

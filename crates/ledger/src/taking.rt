@@ -44,6 +44,7 @@ impl Ledger {
 
     // Takes what remains of a source's statement: begins from its head, with the balance reached as opening, enters all that remains
     // and posts. It refuses before the first entry, and then the source is as before, or never.
+    #[tactic(auto, using(crate::proofs::Answering::handed_by, crate::proofs::Answering::unless_by, crate::proofs::Answering::head_denied))]
     pub fn take<S: Source>(
         self,
         source: &mut S,
