@@ -1,7 +1,6 @@
 -- Groups of two among the items of a table. An item's number is its position, counted from 1.
 use Rattle.std.specs.Borrow.{Bor}
-use Rattle.std.specs.Prelude.{◌≡◌, ◌<◌, ℕ, zero, suc, ◌+◌, min, Bool, cond, ◌&&◌, List, length, is_some, Some, None, Option, ◌==◌, nat_le, slice_index_or, slice_set}
-use Rattle.domain.specs.declared.entry.Side.{Side}
+use Rattle.std.specs.Prelude.{◌≡◌, ◌<◌, ℕ, zero, suc, ◌+◌, min, Bool, cond, List, length, is_some, Some, None, Option, nat_le, slice_index_or, slice_set}
 use Rattle.domain.specs.declared.entry.Item.{Item}
 use Rattle.domain.specs.Blanks.{blank}
 

@@ -1,5 +1,5 @@
 -- The outstanding items of a side, counted and added.
-use Rattle.std.specs.Prelude.{ℕ, Bool, cond, ◌&&◌, List, [], ◌∷◌, ℤ, pos, ◌+ℤ◌, codes, decimal, ◌==◌}
+use Rattle.std.specs.Prelude.{ℕ, cond, List, [], ◌∷◌, ℤ, pos, ◌+ℤ◌, codes, decimal}
 use Rattle.std.specs.List.{count_by}
 use Rattle.std.specs.Fmt.{signed_decimal}
 use Rattle.domain.specs.declared.entry.Item.{Item}
