@@ -61,8 +61,9 @@ pub fn tagged(line: &[u8]) -> Option<(Tag, &[u8])>
     match line {
         [b':', a, b, b':', body @ ..] => Some((coded(&[*a, *b])?, body)),
         [b':', a, b, c, b':', body @ ..] => Some((coded(&[*a, *b, *c])?, body)),
+        [b':', ..] => None,
         [b'-'] => Some((Tag::Hyphen, &line[1..])),
-        [b':' | b'-', ..] => None,
+        [b'-', ..] => None,
         _ => Some((Tag::Further, line)),
     }
 }

@@ -1,5 +1,6 @@
 -- What one line more leads to. Each line is judged in ascending order of refusal: form, place, day, amount, currency, number, balance, count.
 use Rattle.std.specs.Prelude.{ℕ, ◌+◌, Bool, true, false, cond, ◌&&◌, ◌||◌, List, drop, ℤ, pos, ◌+ℤ◌, Some, None, Ok, Err, Option, Result, ◌==◌, nat_le}
+use Rattle.std.specs.Ordering.{int_eq}
 use Rattle.domain.specs.declared.currency.Currency.{Currency}
 use Rattle.domain.specs.declared.digits.Digits.{Digits}
 use Rattle.domain.specs.declared.refusal.Refusal.{Refusal}
@@ -94,7 +95,7 @@ opened_first s body = and_then (arrived_of s (Opening First) body) (λ a. Ok (op
 
 -- a balance with the day and the amount of the last closing
 abbrev pub repeats : State → Balance → Bool
-repeats s b = b.day.number == s.closing_day.number && same_int b.amount.minor s.closing.minor
+repeats s b = b.day.number == s.closing_day.number && int_eq b.amount.minor s.closing.minor
 
 -- :60M: repeats the :62M: before
 unfoldable pub opened_later : State → List ℕ → Result State Refusal

@@ -139,11 +139,7 @@ impl State {
     fn is_repeat(self, balance: Balance) -> bool
         ensures { result ≡ repeats self balance }
     {
-        balance
-            == Balance {
-                day: self.closing_day,
-                amount: self.closing,
-            }
+        balance.day == self.closing_day && balance.amount == self.closing
     }
 
     // :60M: repeats the :62M: before.
