@@ -43,6 +43,7 @@ pub fn balance_mark(body: &[u8]) -> Option<Mark>
 }
 
 // A balance that has its form: its day, its amount, and its currency, which must be the account's.
+// Digits and currency are no struct: only here are both asked for, and a state's readers know them as two fields.
 #[tactic(auto, unfolding(crate::specs::Balances::balance_of))]
 pub fn balance_in(
     body: &[u8],
