@@ -1,2 +1,2 @@
 pub mod Handing
-pub mod Outputs
+pub mod Zeroing

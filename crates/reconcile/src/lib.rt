@@ -14,7 +14,7 @@ use steps::run;
 mod steps;
 
 // How many bytes each text may have.
-const LONGEST: usize = 32_768;
+pub const LONGEST: usize = 32_768;
 
 fn check_length(text: &[u8]) -> Result<(), Refusal>
     ensures { result ≡ cond (nat_lt LONGEST (length text.now)) (Err TooMuch) (Ok tt) }
@@ -28,7 +28,7 @@ fn check_length(text: &[u8]) -> Result<(), Refusal>
 // Reads an MT940 statement and a cash book, both in EUR with 2 digits, opens a ledger for them over the table, takes both, folds,
 // matches by reference, and writes the report at the front of the output. Answers the report's length, or the first refusal with its
 // offset: that of a reader's line, or 0 where a text is longer than 32,768 bytes or the ledger refuses.
-#[tactic(auto, using(crate::proofs::Outputs::output_at_zero), unfolding(crate::specs::Texts::recon_of, crate::specs::Texts::bank_of, crate::specs::Texts::book_of))]
+#[tactic(auto, unfolding(crate::specs::Texts::recon_of, crate::specs::Texts::bank_of, crate::specs::Texts::book_of))]
 pub fn reconcile(
     bank: &[u8],
     book: &[u8],
