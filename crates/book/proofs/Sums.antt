@@ -1,10 +1,11 @@
 -- The sums of a state, as the code adds to them.
-use Rattle.std.proofs.Common.{◌≡◌, ℕ, List, ℤ, ◌+ℤ◌, IfOk, Ok, Err, Option, Result, arith, w64, SFits, to_z, of_z}
-use Rattle.std.proofs.lemmas.Int.{ints, to_z-of_z}
+use Rattle.std.proofs.Common.{◌≡◌, ℕ, List, ℤ, ◌+ℤ◌, IfOk, Ok, Err, Option, Result, arith, w64, to_z, of_z}
+use Rattle.std.proofs.lemmas.Int.{ints}
 use Rattle.domain.specs.declared.amount.Amount.{Amount}
 use Rattle.domain.specs.declared.entry.Entry.{Entry}
 use Rattle.domain.specs.declared.entry.Place.{Place}
 use Rattle.domain.specs.declared.refusal.Refusal.{Refusal}
+use Rattle.readers.proofs.Sums.{sum_is}
 use Rattle.book_lines.specs.Reading.{entry_in}
 use Rattle.book.specs.declared.state.State.{State}
 use Rattle.book.specs.Judging.{step_of}
@@ -12,11 +13,7 @@ use Rattle.book.specs.Laws.{Went, went}
 use Rattle.book.specs.Sizes.{Sound}
 
 pub added : (s : State) (a : Amount) (r : ℤ) → Sound s → r ≡ a.minor → to_z w64 (of_z w64 (to_z w64 (of_z w64 s.sum) +ℤ to_z w64 (of_z w64 r))) ≡ s.sum +ℤ a.minor
-added s a r h e =
-    let f : SFits w64 s.sum = omega (arith, ints, h.few, h.low, h.high) in
-    let g : SFits w64 r = omega (arith, ints, e, a.within.0, a.within.1) in
-    let k : SFits w64 (s.sum +ℤ r) = omega (arith, ints, e, h.few, h.low, h.high, a.within.0, a.within.1) in
-    rw (to_z-of_z w64 s.sum f, to_z-of_z w64 r g, to_z-of_z w64 (s.sum +ℤ r) k, e)
+added s a r h e = sum_is s.sum r a (omega (arith, ints, h.few, h.low, h.high)) (omega (arith, ints, h.few, h.low, h.high, a.within.0, a.within.1)) e
 
 still : (s : State) (o : Option Entry) (r : Result State Refusal) → Sound s → IfOk r (Went s o) → IfOk r Sound
 still s o (Ok u) h w = w.sound h

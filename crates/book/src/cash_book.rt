@@ -9,9 +9,8 @@ use domain::entry::{Entry, Place, Side};
 use readers::Reader;
 use readers::account::Account;
 use readers::format::Format;
+use readers::passage::Passage;
 use source::Head;
-use text::Lines;
-use text::line::Line;
 
 // A reader of cash books: `CashBook::read` reads a text, which is then a source of its entries.
 pub type CashBook<'a> = Reader<'a, BookFormat>;
@@ -56,10 +55,10 @@ impl Format for BookFormat {
         }
     }
 
-    fn entry(_account: Account, line: Line<'_>, _behind: Lines<'_>) -> Option<Entry> {
-        let content = line.content();
+    fn entry(_account: Account, passage: Passage<'_>) -> Option<Entry> {
+        let content = passage.line.content();
         let place = Place {
-            offset: line.at as u32,
+            offset: passage.line.at as u32,
             length: content.len() as u32,
         };
         entry_in(content, place)

@@ -11,9 +11,8 @@ use mt940_pages::state::{State, begin};
 use readers::Reader;
 use readers::account::Account;
 use readers::format::Format;
+use readers::passage::Passage;
 use source::Head;
-use text::Lines;
-use text::line::Line;
 
 // A reader of MT940: `Mt940::read` reads a text, which is then a source of its entries.
 pub type Mt940<'a> = Reader<'a, Mt940Format>;
@@ -58,15 +57,15 @@ impl Format for Mt940Format {
         }
     }
 
-    fn entry(account: Account, line: Line<'_>, behind: Lines<'_>) -> Option<Entry> {
-        let m = stated(line.content(), account.digits)?;
+    fn entry(account: Account, passage: Passage<'_>) -> Option<Entry> {
+        let m = stated(passage.line.content(), account.digits)?;
         Some(Entry {
             value_day: m.value_day,
             entry_day: m.entry_day,
             amount: m.amount,
             kind: m.kind,
             key: m.key,
-            place: place_of(line, behind),
+            place: place_of(passage),
         })
     }
 }

@@ -1,30 +1,17 @@
 -- A reader that goes on to the next entry, and what it means then.
 use Rattle.std.proofs.Common.{◌≡◌, ℕ, ◌-◌, ◌≤◌, List, [], ◌∷◌, length, ℤ, ◌+ℤ◌, Some, None, Option, sym, ap, ◌∙◌, subst, arith, w64, SFits, to_z, of_z}
-use Rattle.std.proofs.lemmas.Int.{ints, to_z-of_z}
-use Rattle.domain.specs.declared.amount.Amount.{Amount}
 use Rattle.domain.specs.declared.entry.Entry.{Entry}
 use Rattle.source.specs.Statement.{Lawful, first, first_of, moved}
 use Rattle.source.proofs.Sums.{lawful_fits, lawful_moved}
 use Rattle.text.specs.declared.Lines.{Lines}
 use Rattle.text.specs.Left.{lines_left}
 use Rattle.readers.specs.declared.account.Account.{Account}
-use Rattle.readers.specs.declared.format.TheConstants.{LONGEST}
+use Rattle.readers.specs.declared.passage.TheConstants.{LONGEST}
 use Rattle.readers.specs.declared.Reader.{Reader}
-use Rattle.readers.specs.Entries.{entries_of, Within}
+use Rattle.readers.specs.Entries.{entries_of}
+use Rattle.readers.specs.Within.{Within}
+use Rattle.readers.proofs.Sums.{sum_fits, sum_is}
 use Rattle.readers.specs.Whole.{meaning_of, Ready}
-
--- signed numbers as the code adds them
-module _ (y r : ℤ) (a : Amount) (f : SFits w64 y) (g : SFits w64 (y +ℤ a.minor)) (e : r ≡ a.minor) where
-  read : to_z w64 (of_z w64 y) +ℤ to_z w64 (of_z w64 r) ≡ y +ℤ a.minor
-  read =
-      let h : SFits w64 a.minor = omega (arith, ints, a.within.0, a.within.1) in
-      rw (e, to_z-of_z w64 y f, to_z-of_z w64 a.minor h)
-
-  sum_fits : SFits w64 (to_z w64 (of_z w64 y) +ℤ to_z w64 (of_z w64 r))
-  sum_fits = rw read g
-
-  sum_is : to_z w64 (of_z w64 (to_z w64 (of_z w64 y) +ℤ to_z w64 (of_z w64 r))) ≡ y +ℤ a.minor
-  sum_is = rw read (to_z-of_z w64 (y +ℤ a.minor) g)
 
 module _ {F : Type 0} (stated : Account → ℕ × List ℕ → List (ℕ × List ℕ) → Option Entry) (r : Reader F) (ready : Ready stated r) (lines : Lines) (short : Within LONGEST (lines_left lines)) where
   -- the entries in the lines that were left, and in those that are

@@ -15,9 +15,10 @@ use Rattle.text.specs.Lines.{split, numbered, lines_from, content_of}
 use Rattle.text.specs.Scanning.{scan_of, scan_from}
 use Rattle.text.proofs.Inside.{AllInside, lines_inside}
 use Rattle.readers.specs.declared.account.Account.{Account}
-use Rattle.readers.specs.declared.format.TheConstants.{LONGEST}
+use Rattle.readers.specs.declared.passage.TheConstants.{LONGEST}
 use Rattle.readers.specs.declared.Reader.{Reader}
-use Rattle.readers.specs.Entries.{with_entry, entries_of, entries_in, Within}
+use Rattle.readers.specs.Entries.{with_entry, entries_of, entries_in}
+use Rattle.readers.specs.Within.{Within}
 use Rattle.readers.specs.Tallies.{Closes, sum_with, count_with}
 use Rattle.readers.specs.Accounts.{account_of}
 use Rattle.readers.specs.Whole.{statement_of, read_of, meaning_of, Made}
@@ -78,7 +79,7 @@ lines_after from at (l ∷ ls) h = (h, lines_after from (at + length l + 1) ls (
 
 lines_within : (m n at : ℕ) (ls : List (List ℕ)) → m ≤ n → AllInside m (numbered at ls) → Within n (numbered at ls)
 lines_within m n at [] h a = tt
-lines_within m n at (l ∷ ls) h a = (omega (arith, h, a.0), lines_after at (at + length l + 1) ls (omega arith), lines_within m n (at + length l + 1) ls h a.1)
+lines_within m n at (l ∷ ls) h a = (omega (arith, h, a.0), (lines_after at (at + length l + 1) ls (omega arith), lines_within m n (at + length l + 1) ls h a.1))
 
 -- a format that meets its laws, and a text that it has read
 module _ {S : Type 0} (begun : Account → S) (stepped : S → List ℕ → Result S Refusal) (complete : S → Bool) (said : S → Head) (stated : Account → ℕ × List ℕ → List (ℕ × List ℕ) → Option Entry) (Tallies : Account → ℤ → ℕ → S → Type 0)

@@ -1,6 +1,5 @@
 -- The entries that the lines of a text state, in any format.
-use Rattle.std.specs.Prelude.{◌≡◌, ℕ, ◌+◌, ◌<◌, ◌≤◌, List, [], ◌∷◌, length, Some, None, Option}
-use Rattle.std.specs.List.{AllByRecursion}
+use Rattle.std.specs.Prelude.{◌≡◌, ℕ, List, [], ◌∷◌, Some, None, Option}
 use Rattle.std.specs.Option.{IfNone}
 use Rattle.domain.specs.declared.entry.Entry.{Entry}
 use Rattle.text.specs.Lines.{lines_from}
@@ -18,11 +17,6 @@ entries_of stated (l ∷ ls) = with_entry (stated l ls) (entries_of stated ls)
 -- the entries in the lines of a text
 unfoldable pub entries_in : (ℕ × List ℕ → List (ℕ × List ℕ) → Option Entry) → List ℕ → List Entry
 entries_in stated text = entries_of stated (lines_from 0 text)
-
--- lines in their order, each of which ends before the offset n
-abbrev pub Within : ℕ → List (ℕ × List ℕ) → Type 0
-Within n [] = Unit {0}
-Within n (l ∷ ls) = (l.0 + length l.1 < n) × AllByRecursion (λ m. l.0 ≤ m.0) ls × Within n ls
 
 -- the first entry in lines, and the lines behind its line; none where none is left, and then no line is
 abbrev pub Sought : (ℕ × List ℕ → List (ℕ × List ℕ) → Option Entry) → List (ℕ × List ℕ) → Option Entry → List (ℕ × List ℕ) → Type 0

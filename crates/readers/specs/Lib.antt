@@ -2,3 +2,4 @@ pub mod Accounts
 pub mod Entries
 pub mod Tallies
 pub mod Whole
+pub mod Within

@@ -10,10 +10,11 @@ use Rattle.source.specs.Statement.{Statement, Lawful}
 use Rattle.text.specs.Left.{lines_left}
 use Rattle.text.specs.Scanning.{scan_from}
 use Rattle.readers.specs.declared.account.Account.{Account}
-use Rattle.readers.specs.declared.format.TheConstants.{LONGEST}
+use Rattle.readers.specs.declared.passage.TheConstants.{LONGEST}
 use Rattle.readers.specs.declared.Reader.{Reader}
 use Rattle.readers.specs.Accounts.{and_then, account_of}
-use Rattle.readers.specs.Entries.{entries_of, entries_in, Within}
+use Rattle.readers.specs.Entries.{entries_of, entries_in}
+use Rattle.readers.specs.Within.{Within}
 
 -- what is looked at before the lines: digits, currency and length
 abbrev pub admitted_of : List ℕ → List ℕ → ℕ → Result Account Refusal

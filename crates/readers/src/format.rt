@@ -5,17 +5,13 @@ ghost use Rattle.source.specs.declared.Head.{Head};
 ghost use Rattle.text.specs.Left.{lines_left, shown};
 ghost use Rattle.text.specs.Lines.{content_of};
 ghost use Rattle.readers.specs.declared.account.Account.{Account};
-ghost use Rattle.readers.specs.Entries.{Within};
 ghost use Rattle.readers.specs.Tallies.{Closes, count_with, sum_with};
 
 use crate::account::Account;
+use crate::passage::Passage;
 use domain::entry::{Entry, Side};
 use source::Head;
-use text::line::Line;
-use text::{Lines, Reading};
-
-// How many bytes a text may have.
-pub const LONGEST: usize = 1_048_576;
+use text::Reading;
 
 // A format of statements: what its lines lead to, and the entries that they state.
 pub trait Format {
@@ -46,9 +42,8 @@ pub trait Format {
     fn head(end: Self::Scan) -> Head
         ensures { result ≡ said end };
 
-    fn entry(account: Account, line: Line<'_>, behind: Lines<'_>) -> Option<Entry>
-        requires { Within LONGEST (shown line ∷ lines_left behind) }
-        ensures { result ≡ stated account (shown line.entry) (lines_left behind.entry) };
+    fn entry(account: Account, passage: Passage<'_>) -> Option<Entry>
+        ensures { result ≡ stated account (shown passage.entry.line) (lines_left passage.entry.behind) };
 
     // Before the first line no entry has come.
     ghost starts: { (account : Account) → tallies account (pos 0) 0 (begun account) };

@@ -3,16 +3,19 @@
 
 ghost use Rattle.std.specs.Prelude.{◌≡◌};
 ghost use Rattle.text.specs.Left.{lines_left};
-ghost use Rattle.readers.specs.Entries.{Within, Sought};
+ghost use Rattle.readers.specs.Entries.{Sought};
+ghost use Rattle.readers.specs.Within.{Within};
 ghost use Rattle.readers.specs.Whole.{Made, Ready, meaning_of, read_of};
 
 pub mod account;
 pub mod format;
+pub mod passage;
 
 use account::Account;
 use domain::entry::{Entry, Side};
 use domain::refusal::{Refusal, Refused};
-use format::{Format, LONGEST};
+use format::Format;
+use passage::{LONGEST, Passage};
 use source::{Head, Source};
 use std::marker::PhantomData;
 use text::{Lines, lines_from, scan};
@@ -33,8 +36,13 @@ fn seek<F: Format>(lines: &mut Lines<'_>, account: Account) -> Option<Entry>
     ensures is { Sought (F.stated account) (lines_left lines.old) result (lines_left lines.new) }
     ensures again { Within LONGEST (lines_left lines.new) }
 {
+    // A `for` would hold the lines, and `entry` looks ahead over those behind.
     while let Some(line) = lines.next() {
-        if let Some(entry) = F::entry(account, line, *lines) {
+        let passage = Passage {
+            line,
+            behind: *lines,
+        };
+        if let Some(entry) = F::entry(account, passage) {
             return Some(entry);
         }
     }

@@ -1,7 +1,8 @@
 use Rattle.std.proofs.Common.{◌≡◌, length}
 use Rattle.text.specs.Left.{lines_left}
-use Rattle.readers.specs.declared.format.TheConstants.{LONGEST}
-use Rattle.readers.specs.Entries.{entries_of, Within}
+use Rattle.readers.specs.declared.passage.TheConstants.{LONGEST}
+use Rattle.readers.specs.Entries.{entries_of}
+use Rattle.readers.specs.Within.{Within}
 use Rattle.readers.proofs.seek.Given as goal
 
 abbrev pub invariant-loop-line : goal.invariant-loop-line

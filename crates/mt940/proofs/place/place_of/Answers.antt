@@ -9,6 +9,6 @@ content_within raw = cond_both _ (take (length raw - 1) raw) raw (λ bs. length 
 
 pub loop-next-init : goal.loop-next-init
 loop-next-init c =
-    let h = content_within c.args.line.raw.now in
-    let w = c.requires in
-    rw (c.into_iter-next-iterator.ensures.into_iter_gives, c.end-end.ensures) (refl, omega arith, omega (arith, h, w.0), w.2, w.1)
+    let p = c.args.passage in
+    let h = content_within p.line.raw.now in
+    rw (c.into_iter-next-iterator.ensures.into_iter_gives, c.end-end.ensures) (refl, omega arith, omega (arith, h, p.within.0), p.within.1.1, p.within.1.0)
