@@ -42,6 +42,10 @@ pub provided_no : {X : Type 0} (b : Bool) (f : T b → X) → (T b → ⊥) → 
 provided_no true f n = absurd (n tt)
 provided_no false f n = refl
 
+-- and where the test says no
+pub provided_none : {X : Type 0} (b : Bool) (f : T b → X) → b ≡ false → provided b f ≡ None
+provided_none b f e = provided_no b f (λ t. both_ways b e (passes b t))
+
 true_t : (b : Bool) → b ≡ true → T b
 true_t true e = tt
 true_t false e = absurd (false≢true e)
@@ -53,7 +57,7 @@ as_day_lem d = provided_yes _ _ (le→leb _ _ d.within) ∙ ap Some (day_same _ 
 
 pub no_day : (n : ℕ) → is_day n ≡ false → as_day n ≡ None
 unfolding as_day
-no_day n e = provided_no _ _ (λ t. both_ways (is_day n) e (passes (is_day n) t))
+no_day n e = provided_none _ _ e
 
 both_t : (a b : Bool) → T a → T b → T (a && b)
 both_t true b p q = q
@@ -65,7 +69,7 @@ as_amount_lem a = provided_yes _ _ (both_t _ _ a.within.0.le a.within.1.le) ∙ 
 
 pub no_amount : (z : ℤ) → is_amount z ≡ false → as_amount z ≡ None
 unfolding as_amount
-no_amount z e = provided_no _ _ (λ t. both_ways (is_amount z) e (passes (is_amount z) t))
+no_amount z e = provided_none _ _ e
 
 -- a test that passed, as the facts that a value keeps
 pub amount_within : (z : ℤ) → is_amount z ≡ true → InAmount z
@@ -76,7 +80,7 @@ day_within n e = leb→le n 36524 (true_t (is_day n) e)
 
 pub no_currency : (code : List ℕ) → is_currency code ≡ false → as_currency code ≡ None
 unfolding as_currency
-no_currency code e = provided_no _ _ (λ t. both_ways (is_currency code) e (passes (is_currency code) t))
+no_currency code e = provided_none _ _ e
 
 pub as_currency_lem : (c : Currency) (code : List ℕ) → c.code ≡ code → as_currency code ≡ Some c
 unfolding as_currency
@@ -87,7 +91,7 @@ as_currency_lem c code e =
 
 pub no_key : (r : List ℕ) → is_reference r ≡ false → as_key r ≡ None
 unfolding as_key
-no_key r e = provided_no _ _ (λ t. both_ways (is_reference r) e (passes (is_reference r) t))
+no_key r e = provided_none _ _ e
 
 pub as_key_lem : (k : Key) (r : List ℕ) → is_reference r ≡ true → k.high ≡ high_of r → k.low ≡ low_of r → as_key r ≡ Some k
 unfolding as_key

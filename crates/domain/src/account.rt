@@ -1,7 +1,8 @@
-// The calls by which raw numbers and bytes become amounts, days, currencies and digits.
+// The calls by which raw numbers and bytes become amounts, days, currencies, digits and accounts. They stand apart from most of these types, since a
+// type with a fact beside it imports what its file imports.
 ghost use Rattle.std.specs.Prelude.{◌≡◌, true, length};
 ghost use Rattle.std.specs.Option.{ok_or};
-ghost use Rattle.domain.specs.Accounts.{as_digits, digit_count};
+ghost use Rattle.domain.specs.Accounts.{account_of, as_digits, digit_count};
 ghost use Rattle.domain.specs.Currencies.{is_capital as is_capital_byte, is_currency};
 ghost use Rattle.domain.specs.Makers.{as_amount, as_currency, as_day, is_amount, is_day};
 ghost use Rattle.domain.specs.declared.refusal.Refusal.TheVariants.{BadAmount, BadCurrency, NoSuchDay};
@@ -110,5 +111,22 @@ impl Digits {
             Digits::Two => 2,
             Digits::Three => 3,
         }
+    }
+}
+
+// What a text is read for, and a ledger kept in: a currency, and the decimal digits of its amounts.
+#[derive(Clone, Copy, PartialEq, Eq, Debug)]
+pub struct Account {
+    pub currency: Currency,
+    pub digits: Digits,
+}
+
+impl Account {
+    pub fn new(currency: &[u8], digits: u8) -> Result<Account, Refusal>
+        ensures { result ≡ account_of currency.now digits }
+    {
+        let digits = Digits::try_from(digits)?;
+        let currency = Currency::try_from(currency)?;
+        Ok(Account { currency, digits })
     }
 }

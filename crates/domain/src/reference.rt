@@ -52,7 +52,7 @@ fn words(reference: &[u8]) -> (u64, u64)
 impl<'a> TryFrom<&'a [u8]> for Key {
     type Error = Refusal;
 
-    // The key of a reference, or 1 where these bytes are none.
+    // The key of a reference; refused where these bytes are none.
     ghost try_from_gives = { λ reference made. made ≡ ok_or (as_key reference.now) Form };
 
     fn try_from(reference: &'a [u8]) -> Result<Key, Refusal> {
