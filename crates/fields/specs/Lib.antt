@@ -1,4 +1,5 @@
 pub mod Runs
+pub mod Splits
 pub mod Units
 pub mod Commas
 pub mod Written

@@ -1,12 +1,13 @@
 // Numbers and amounts as texts write them.
 #![tactic(auto)]
 
-ghost use Rattle.std.specs.Prelude.{◌≡◌, ◌+◌, ◌-◌, ◌*◌, ◌^◌, ◌<◌, ◌≤◌, true, length, pos, position, IfSome, IfOk, MatchOption, Some};
-ghost use Rattle.std.specs.Option.{ok_or};
+ghost use Rattle.std.specs.Prelude.{◌≡◌, ◌+◌, ◌-◌, ◌*◌, ◌^◌, ◌<◌, ◌≤◌, true, length, pos, position, ◌==◌, IfSome, IfOk, Some};
+ghost use Rattle.std.specs.Option.{ok_or, option_map};
 ghost use Rattle.domain.specs.Accounts.{digit_count};
 ghost use Rattle.domain.specs.Makers.{as_amount};
-ghost use Rattle.fields.specs.Commas.{before, behind, comma_amount, commas as comma_count, is_comma, minor_in, Figures, Taken};
+ghost use Rattle.fields.specs.Commas.{comma_amount, commas as comma_count, minor_in, Figures, Taken};
 ghost use Rattle.fields.specs.Runs.{is_digit as is_digit_byte, all_digits, all_in_run, in_run, is_numeral, numeral_of, run_length, worth as worth_of};
+ghost use Rattle.fields.specs.Splits.{split_once};
 ghost use Rattle.fields.specs.Units.{minus_of, units_of};
 ghost use Rattle.fields.specs.Written.{ReadsAmount, ReadsNumber, ReadsUnits};
 
@@ -114,28 +115,27 @@ pub fn run_length(bytes: &[u8]) -> usize
     bytes.iter().take_while(|b| in_run(**b)).count()
 }
 
+// Where the first byte `b` stands.
+fn first(bytes: &[u8], b: u8) -> Option<usize>
+    ensures { result ≡ position (λ x. x == b) bytes.now }
+{
+    bytes.iter().position(|x| *x == b)
+}
+
+// What stands before the first byte `b`, and what stands behind it; none where there is no such byte.
+pub fn split_once(bytes: &[u8], b: u8) -> Option<(&[u8], &[u8])>
+    ensures is { option_map (λ p. (p.0.now, p.1.now)) result ≡ split_once b bytes.now }
+    ensures within { IfSome result (λ p. length p.0.now + 1 + length p.1.now ≡ length bytes.now) }
+{
+    let at = first(bytes, b)?;
+    Some((&bytes[..at], &bytes[at + 1..]))
+}
+
 // How many commas there are.
 fn commas(run: &[u8]) -> usize
     ensures { result ≡ comma_count run.now }
 {
     run.iter().filter(|b| **b == b',').count()
-}
-
-// Where the first comma stands.
-fn comma_at(run: &[u8]) -> Option<usize>
-    ensures { result ≡ position is_comma run.now }
-{
-    run.iter().position(|b| *b == b',')
-}
-
-// What stands before the first comma, and what stands behind it.
-#[tactic(auto, using(crate::proofs::Parts::commas_none))]
-fn about_comma(run: &[u8]) -> Option<(&[u8], &[u8])>
-    ensures is { MatchOption result (comma_count run.now ≡ 0) (λ p. (p.0.now ≡ before run.now) × (p.1.now ≡ behind run.now)) }
-    ensures within { IfSome result (λ p. length p.0.now < length run.now) }
-{
-    let at = comma_at(run)?;
-    Some((&run[..at], &run[at + 1..]))
 }
 
 // The minor units of a number with these digits before its comma and behind it.
@@ -153,13 +153,13 @@ fn scaled(whole: &[u8], part: &[u8], digits: Digits) -> u64
 }
 
 // The minor units of a run of 2 to 15 bytes with one comma, a digit before it and at most the account's digits behind it.
-#[tactic(auto, using(crate::proofs::Parts::digits_before, crate::proofs::Parts::digits_behind))]
+#[tactic(auto, using(crate::proofs::Parts::commas_none, crate::proofs::Parts::digits_before, crate::proofs::Parts::digits_behind))]
 fn minor(run: &[u8], digits: Digits) -> Option<u64>
     requires { all_in_run run.now ≡ true }
     ensures is { result ≡ minor_in (digit_count digits) run.now }
     ensures small { IfSome result (λ n. n < 2 ^ 63) }
 {
-    let (whole, part) = about_comma(run)?;
+    let (whole, part) = split_once(run, b',')?;
     let most = digits.count() as usize;
     if run.len() <= 15 && commas(run) == 1 && !whole.is_empty() && part.len() <= most {
         Some(scaled(whole, part, digits))
