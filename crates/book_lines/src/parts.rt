@@ -3,9 +3,10 @@ ghost use Rattle.std.specs.Iterator.{YieldsFirstRef, item_count};
 ghost use Rattle.book_lines.specs.Fields.{fields_of};
 ghost use Rattle.book_lines.specs.Left.{fields_left};
 
-use text::find;
+use fields::split_once;
 
 // The fields of a line, one by one: what stands between its commas.
+// They are no `slice::split`: the type of its closure has no name to pass the fields behind a tag on by, and its clauses tell of the closure's runs, not of the fields left.
 // They come in no array `[&[u8]; N]`, which was tried: code over an array of references whose length is a const parameter gets no proof.
 #[derive(Clone, Copy)]
 pub(crate) struct Fields<'a> {
@@ -29,15 +30,11 @@ impl<'a> Iterator for Fields<'a> {
     #[tactic(auto, using(crate::proofs::Cutting::first_field, crate::proofs::Cutting::fewer_fields, crate::proofs::Cutting::last_field))]
     fn next(&mut self) -> Option<&'a [u8]> {
         let rest = self.rest?;
-        match find(rest, b',', 0) {
-            Some(comma) => {
-                self.rest = Some(&rest[comma + 1..]);
-                Some(&rest[..comma])
-            }
-            None => {
-                self.rest = None;
-                Some(rest)
-            }
-        }
+        let Some((field, behind)) = split_once(rest, b',') else {
+            self.rest = None;
+            return Some(rest);
+        };
+        self.rest = Some(behind);
+        Some(field)
     }
 }
