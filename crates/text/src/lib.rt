@@ -1,10 +1,10 @@
 // Lines, and texts that are read line by line.
 #![tactic(auto)]
 
-ghost use Rattle.std.specs.Prelude.{◌≡◌, ℕ, ◌<◌, ◌≤◌, Bool, List, length, take, drop, IfSome, IfOk, Result};
+ghost use Rattle.std.specs.Prelude.{◌≡◌, ℕ, ◌<◌, ◌≤◌, Bool, List, length, drop, IfSome, IfOk, Result};
 ghost use Rattle.domain.specs.declared.refusal.Refusal.{Refusal};
 ghost use Rattle.std.specs.Iterator.{YieldsFirstBy, item_count};
-ghost use Rattle.text.specs.Lines.{from, content_of, is_formed, is_whole, lines_from};
+ghost use Rattle.text.specs.Lines.{from, is_formed, is_whole, lines_from};
 ghost use Rattle.text.specs.Left.{shown, lines_left};
 ghost use Rattle.text.specs.Scanning.{scan_from};
 
