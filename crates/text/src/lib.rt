@@ -99,6 +99,7 @@ pub fn scan<S: Reading + Copy>(start: S, text: &[u8]) -> Result<S, Refused>
     ensures is { result ≡ scan_from S.Reading.stepped S.Reading.complete text.now 0 start }
     ensures again { IfOk result S.Reading.sound }
 {
+    // A loop and no `try_fold`, which was tried: its clause tells of the closure's runs, and the check finds neither the answer nor `sound` from them.
     let mut state = start;
     for line in lines_from(text, 0) {
         state = state.step(line.content()).map_err(|why| Refused {
