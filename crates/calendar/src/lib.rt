@@ -2,10 +2,9 @@
 #![tactic(auto)]
 
 ghost use Rattle.std.specs.Prelude.{◌≡◌, ◌+◌, ◌-◌, ◌*◌, ◌<◌, ◌≤◌, true, length, Some};
-ghost use Rattle.domain.specs.Makers.{as_day};
 ghost use Rattle.fields.specs.Runs.{is_digit};
 ghost use Rattle.calendar.specs.Calendar.{day_of, days_in, first_of, is_day, length_of, month_of, year_of};
-ghost use Rattle.calendar.specs.Dates.{date_text, day_in, entry_day_of, is_date, two, Stands};
+ghost use Rattle.calendar.specs.Dates.{date_text, day_in, entry_day_of, is_date, numbered, two, Stands};
 
 use crate::table::first_days;
 use domain::day::Day;
@@ -38,20 +37,21 @@ fn days_in(year: u16, month: u8) -> u8
 fn is_day(yy: u8, mm: u8, dd: u8) -> bool
     ensures { result ≡ is_day yy mm dd }
 {
+    // Comparisons and no ranges with `contains`, which were tried: the check proves these only near its limits.
     yy <= 99 && 1 <= mm && mm <= 12 && 1 <= dd && dd <= days_in(year_of(yy), mm)
 }
 
-// The number of the day that a two-digit year, a month and a day of the month name.
+// The day that a two-digit year, a month and a day of the month name.
 #[tactic(auto, using(crate::proofs::Steps::first_most))]
-fn day_of(yy: u8, mm: u8, dd: u8) -> Option<u16>
-    ensures { result ≡ day_of yy mm dd }
+fn day_of(yy: u8, mm: u8, dd: u8) -> Option<Day>
+    ensures { result ≡ numbered (day_of yy mm dd) }
 {
     // A guard and no `then`, whose closure's sums the check proves only near its limits.
     if !is_day(yy, mm, dd) {
         return None;
     }
     let month = 12 * (year_of(yy) as usize - 1980) + (mm as usize - 1);
-    Some(first_days()[month] + (dd as u16 - 1))
+    Day::try_from(first_days()[month] + (dd as u16 - 1)).ok()
 }
 
 // Whether these are six digits.
@@ -78,7 +78,7 @@ pub fn day_in(date: &[u8]) -> Option<Day>
     match date {
         &[y1, y2, m1, m2, d1, d2] if is_digits(date) => {
             let (yy, mm, dd) = (number(y1, y2), number(m1, m2), number(d1, d2));
-            day_of(yy, mm, dd).and_then(|n| Day::try_from(n).ok())
+            day_of(yy, mm, dd)
         }
         _ => None,
     }
@@ -96,17 +96,17 @@ pub fn entry_day(value_date: &[u8], month_day: &[u8]) -> Option<Day>
 }
 
 // The month in which a day lies: the last one that begins on it or before it.
-fn month_of(n: u16) -> usize
-    requires { n ≤ 36524 }
-    ensures is { result ≡ month_of n }
+fn month_of(day: Day) -> usize
+    ensures is { result ≡ month_of day.number }
     ensures within { result < 1200 }
-    ensures from { first_of result ≤ n }
-    ensures before { n < first_of result + length_of result }
+    ensures from { first_of result ≤ day.number }
+    ensures before { day.number < first_of result + length_of result }
 {
+    let n = day.number();
     first_days().partition_point(|first| *first <= n) - 1
 }
 
-// The two digits of a number below 100.
+// The two digits of a number below 100; the kit's `itoa` writes 7 as one digit, and a date has 07.
 fn two(n: u8) -> [u8; 2]
     requires { n < 100 }
     ensures { result ≡ two n }
@@ -122,7 +122,7 @@ pub fn written(day: Day) -> [u8; 6]
     ensures six { length result ≡ 6 }
 {
     let n = day.number();
-    let k = month_of(n);
+    let k = month_of(day);
     let yy = ((1980 + k / 12) % 100) as u8;
     let mm = (k % 12 + 1) as u8;
     let dd = (n - first_days()[k] + 1) as u8;

@@ -1,4 +1,5 @@
 // The first day of each month from January 1980 to December 2079.
+// A constant table whose step rule is proved once: the project fixes this form.
 ghost use Rattle.std.specs.Prelude.{◌≡◌, ◌<◌, ℕ, length, slice_index};
 ghost use Rattle.calendar.specs.Calendar.{first_of};
 

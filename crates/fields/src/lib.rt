@@ -168,7 +168,7 @@ fn minor(run: &[u8], digits: Digits) -> Option<u64>
     }
 }
 
-// The amount with a decimal comma at the front of a text: its minor units and the number of bytes read.
+// The amount with a decimal comma at the front of a text: its minor units and the number of bytes read, in a tuple, as the project fixes it.
 #[tactic(auto, using(crate::proofs::Parts::all_in_run_lem, crate::proofs::Begun::reads_amount, crate::proofs::Begun::begins_ok), unfolding(crate::specs::Commas::comma_amount))]
 pub fn comma_amount(bytes: &[u8], digits: Digits) -> Result<(Amount, usize), Refusal>
     ensures is { result ≡ ok_or (comma_amount digits bytes.now) Refusal.BadAmount }
