@@ -1,5 +1,5 @@
 ghost use Rattle.std.specs.Prelude.{◌≡◌};
-ghost use Rattle.book.specs.Judging.{begin as begun, opened_of, entered_of, closed_of, step_of, is_done};
+ghost use Rattle.book.specs.Judging.{begin as begun, opened_of, entered_of, closed_of, judged_of, step_of, is_done};
 ghost use Rattle.book.specs.Sizes.{Sound};
 
 use book_lines::line::{Closing, Line, Opening, Row};
@@ -51,74 +51,88 @@ pub(crate) fn begin(currency: Currency) -> State
     }
 }
 
-// What an opening line leads to. Here and below the tests stand in the order of the refusals' numbers.
-fn opened(state: State, line: Opening) -> Result<State, Refusal>
-    ensures { result ≡ opened_of state line }
-{
-    if state.stage != Stage::Start {
-        return Err(Refusal::Misplaced);
+impl State {
+    // What an opening line leads to. Here and below the tests stand in the order of the refusals' numbers.
+    fn opened(self, line: Opening) -> Result<State, Refusal>
+        ensures { result ≡ opened_of self line }
+    {
+        if self.stage != Stage::Start {
+            return Err(Refusal::Misplaced);
+        }
+        let opening_day = line.day.ok_or(Refusal::NoSuchDay)?;
+        let opening = line.amount.ok_or(Refusal::BadAmount)?;
+        if line.currency != Some(self.currency) {
+            return Err(Refusal::BadCurrency);
+        }
+        if !is_number(line.number) {
+            return Err(Refusal::BadNumber);
+        }
+        Ok(State {
+            stage: Stage::Within,
+            number: line.number,
+            opening_day,
+            opening,
+            sum: opening.minor(),
+            count: 0,
+            ..self
+        })
     }
-    let opening_day = line.day.ok_or(Refusal::NoSuchDay)?;
-    let opening = line.amount.ok_or(Refusal::BadAmount)?;
-    if line.currency != Some(state.currency) {
-        return Err(Refusal::BadCurrency);
-    }
-    if !is_number(line.number) {
-        return Err(Refusal::BadNumber);
-    }
-    Ok(State {
-        stage: Stage::Within,
-        number: line.number,
-        opening_day,
-        opening,
-        sum: opening.minor(),
-        count: 0,
-        ..state
-    })
-}
 
-// What the line of an entry or a reversal leads to.
-fn entered(state: State, line: Row) -> Result<State, Refusal>
-    requires { Sound state }
-    ensures { result ≡ entered_of state line }
-{
-    if state.stage != Stage::Within {
-        return Err(Refusal::Misplaced);
+    // What the line of an entry or a reversal leads to.
+    fn entered(self, line: Row) -> Result<State, Refusal>
+        requires { Sound self }
+        ensures { result ≡ entered_of self line }
+    {
+        if self.stage != Stage::Within {
+            return Err(Refusal::Misplaced);
+        }
+        line.value_day.ok_or(Refusal::NoSuchDay)?;
+        line.entry_day.ok_or(Refusal::NoSuchDay)?;
+        let amount = line.amount.ok_or(Refusal::BadAmount)?;
+        if self.count >= MOST_ENTRIES {
+            return Err(Refusal::TooMuch);
+        }
+        Ok(State {
+            sum: self.sum + amount.minor(),
+            count: self.count + 1,
+            ..self
+        })
     }
-    let _ = line.value_day.ok_or(Refusal::NoSuchDay)?;
-    let _ = line.entry_day.ok_or(Refusal::NoSuchDay)?;
-    let amount = line.amount.ok_or(Refusal::BadAmount)?;
-    if state.count >= MOST_ENTRIES {
-        return Err(Refusal::TooMuch);
-    }
-    Ok(State {
-        sum: state.sum + amount.minor(),
-        count: state.count + 1,
-        ..state
-    })
-}
 
-// What a closing line leads to.
-fn closed(state: State, line: Closing) -> Result<State, Refusal>
-    ensures { result ≡ closed_of state line }
-{
-    if state.stage != Stage::Within {
-        return Err(Refusal::Misplaced);
+    // What a closing line leads to.
+    fn closed(self, line: Closing) -> Result<State, Refusal>
+        ensures { result ≡ closed_of self line }
+    {
+        if self.stage != Stage::Within {
+            return Err(Refusal::Misplaced);
+        }
+        let closing_day = line.day.ok_or(Refusal::NoSuchDay)?;
+        let closing = line.amount.ok_or(Refusal::BadAmount)?;
+        if closing.minor() != self.sum {
+            return Err(Refusal::Unbalanced);
+        }
+        if line.count as usize != self.count {
+            return Err(Refusal::WrongCount);
+        }
+        Ok(State {
+            stage: Stage::Done,
+            closing_day,
+            closing,
+            ..self
+        })
     }
-    let closing_day = line.day.ok_or(Refusal::NoSuchDay)?;
-    let closing = line.amount.ok_or(Refusal::BadAmount)?;
-    if closing.minor() != state.sum {
-        return Err(Refusal::Unbalanced);
+
+    // What a line leads to.
+    fn judged(self, line: Line) -> Result<State, Refusal>
+        requires { Sound self }
+        ensures { result ≡ judged_of self line }
+    {
+        match line {
+            Line::Opens(opening) => self.opened(opening),
+            Line::Enters(row) => self.entered(row),
+            Line::Closes(closing) => self.closed(closing),
+        }
     }
-    if line.count as usize != state.count {
-        return Err(Refusal::WrongCount);
-    }
-    Ok(State {
-        stage: Stage::Done,
-        closing_day,
-        closing,
-        ..state
-    })
 }
 
 impl Reading for State {
@@ -129,11 +143,7 @@ impl Reading for State {
     ghost sound = { Sound };
 
     fn step(self, line: &[u8]) -> Result<State, Refusal> {
-        match line_in(line).ok_or(Refusal::Form)? {
-            Line::Opens(opening) => opened(self, opening),
-            Line::Enters(row) => entered(self, row),
-            Line::Closes(closing) => closed(self, closing),
-        }
+        self.judged(line_in(line).ok_or(Refusal::Form)?)
     }
 
     fn is_complete(&self) -> bool {
