@@ -10,7 +10,7 @@ use domain::day::Day;
 use domain::entry::{Entry, Side};
 
 // All that a source says but its entries, and how many of these remain.
-#[derive(Clone, Copy)]
+#[derive(Clone, Copy, PartialEq, Eq, Debug)]
 pub struct Head {
     pub number: u32,
     pub opening_day: Day,
@@ -33,7 +33,8 @@ pub trait Source {
     // What each making promises, and each call asks and keeps.
     ghost ready: { Self → Type 0 };
 
-    // The side, as generic code reads it.
+    // The side, as generic code reads it. An impl for a type with a lifetime cannot state the constant in a clause yet: the check
+    // asks for the constant's clauses, which a constant has none of.
     fn which() -> Side
         ensures { result ≡ belongs };
 
