@@ -11,7 +11,7 @@ use Rattle.domain.specs.declared.refusal.Refusal.TheVariants.{Form, Misplaced, N
 use Rattle.domain.proofs.Sames.{decides_same_int}
 use Rattle.domain.specs.Limits.{is_number}
 use Rattle.text.specs.Lines.{content_of}
-use Rattle.readers.specs.declared.account.Account.{Account}
+use Rattle.domain.specs.declared.account.Account.{Account}
 use Rattle.readers.specs.Tallies.{sum_with, count_with, Closes}
 use Rattle.book_lines.specs.declared.line.Closing.{Closing}
 use Rattle.book_lines.specs.declared.line.Line.{Line}

@@ -6,7 +6,7 @@ use Rattle.domain.specs.declared.refusal.Refused.{Refused}
 use Rattle.source.specs.declared.Head.{Head}
 use Rattle.source.specs.Statement.{Statement}
 use Rattle.text.specs.Lines.{content_of}
-use Rattle.readers.specs.declared.account.Account.{Account}
+use Rattle.domain.specs.declared.account.Account.{Account}
 use Rattle.readers.specs.Whole as readers
 use Rattle.book_lines.specs.Reading.{entry_in}
 use Rattle.book.specs.declared.state.State.{State}

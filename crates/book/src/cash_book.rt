@@ -5,9 +5,9 @@ ghost use Rattle.book.specs.Whole.{begin_for, head_of, stated_at};
 
 use crate::state::{State, begin};
 use book_lines::reading::entry_in;
+use domain::account::Account;
 use domain::entry::{Entry, Place, Side};
 use readers::Reader;
-use readers::account::Account;
 use readers::format::Format;
 use readers::passage::Passage;
 use source::Head;

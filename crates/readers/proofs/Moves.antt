@@ -5,7 +5,7 @@ use Rattle.source.specs.Statement.{Lawful, first, first_of, moved}
 use Rattle.source.proofs.Sums.{lawful_fits, lawful_moved}
 use Rattle.text.specs.declared.Lines.{Lines}
 use Rattle.text.specs.Left.{lines_left}
-use Rattle.readers.specs.declared.account.Account.{Account}
+use Rattle.domain.specs.declared.account.Account.{Account}
 use Rattle.readers.specs.declared.passage.TheConstants.{LONGEST}
 use Rattle.readers.specs.declared.Reader.{Reader}
 use Rattle.readers.specs.Entries.{entries_of}

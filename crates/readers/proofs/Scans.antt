@@ -14,13 +14,13 @@ use Rattle.text.specs.Left.{lines_left}
 use Rattle.text.specs.Lines.{split, numbered, lines_from, content_of}
 use Rattle.text.specs.Scanning.{scan_of, scan_from}
 use Rattle.text.proofs.Inside.{AllInside, lines_inside}
-use Rattle.readers.specs.declared.account.Account.{Account}
+use Rattle.domain.specs.declared.account.Account.{Account}
 use Rattle.readers.specs.declared.passage.TheConstants.{LONGEST}
 use Rattle.readers.specs.declared.Reader.{Reader}
 use Rattle.readers.specs.Entries.{with_entry, entries_of, entries_in}
 use Rattle.readers.specs.Within.{Within}
 use Rattle.readers.specs.Tallies.{Closes, sum_with, count_with}
-use Rattle.readers.specs.Accounts.{account_of}
+use Rattle.domain.specs.Accounts.{account_of}
 use Rattle.readers.specs.Whole.{statement_of, read_of, meaning_of, Made}
 
 sums : (o : Option Entry) (z : ℤ) (es : List Entry) → sum_with z o +ℤ total es ≡ z +ℤ total (with_entry o es)

@@ -1,4 +1,3 @@
-pub mod Accounts
 pub mod Entries
 pub mod Tallies
 pub mod Whole

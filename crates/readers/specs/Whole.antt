@@ -9,10 +9,10 @@ use Rattle.source.specs.declared.Head.{Head}
 use Rattle.source.specs.Statement.{Statement, Lawful}
 use Rattle.text.specs.Left.{lines_left}
 use Rattle.text.specs.Scanning.{scan_from}
-use Rattle.readers.specs.declared.account.Account.{Account}
+use Rattle.domain.specs.declared.account.Account.{Account}
 use Rattle.readers.specs.declared.passage.TheConstants.{LONGEST}
 use Rattle.readers.specs.declared.Reader.{Reader}
-use Rattle.readers.specs.Accounts.{and_then, account_of}
+use Rattle.domain.specs.Accounts.{and_then, account_of}
 use Rattle.readers.specs.Entries.{entries_of, entries_in}
 use Rattle.readers.specs.Within.{Within}
 

@@ -4,11 +4,11 @@ ghost use Rattle.domain.specs.declared.entry.Side.{Side};
 ghost use Rattle.source.specs.declared.Head.{Head};
 ghost use Rattle.text.specs.Left.{lines_left, shown};
 ghost use Rattle.text.specs.Lines.{content_of};
-ghost use Rattle.readers.specs.declared.account.Account.{Account};
+ghost use Rattle.domain.specs.declared.account.Account.{Account};
 ghost use Rattle.readers.specs.Tallies.{Closes, count_with, sum_with};
 
-use crate::account::Account;
 use crate::passage::Passage;
+use domain::account::Account;
 use domain::entry::{Entry, Side};
 use source::Head;
 use text::Reading;

@@ -7,11 +7,10 @@ ghost use Rattle.readers.specs.Entries.{Sought};
 ghost use Rattle.readers.specs.Within.{Within};
 ghost use Rattle.readers.specs.Whole.{Made, Ready, meaning_of, read_of};
 
-pub mod account;
 pub mod format;
 pub mod passage;
 
-use account::Account;
+use domain::account::Account;
 use domain::entry::{Entry, Side};
 use domain::refusal::{Refusal, Refused};
 use format::Format;

@@ -6,7 +6,7 @@ ghost use Rattle.readers.specs.Within.{Within, Within-prop};
 use text::Lines;
 use text::line::Line;
 
-// How many bytes a text may have.
+// How many bytes a text may have, by the rules of the formats. The whole job has a smaller limit of its own, `reconcile::LONGEST`.
 pub const LONGEST: usize = 1_048_576;
 
 // A line of a text that is not too long, and the lines behind it.
