@@ -1,5 +1,6 @@
 -- The laws of the cash book as a format: what a line that is not refused does to the sums, and what they are at the end.
 use Rattle.std.specs.Prelude.{◌≡◌, ℕ, Bool, true, false, List, ℤ, pos, IfOk, Some, None, Ok, Option, Result, ◌==◌, nat_lt, refl}
+use Rattle.std.specs.Option.{ok_or}
 use Rattle.std.proofs.Common.{leb, sym, arith}
 use Rattle.std.proofs.lemmas.Int.{ints}
 use Rattle.std.proofs.lemmas.Bool.{and_parts, both_ways, leb-true, ltb-true, false≢true, true≢false}
@@ -9,6 +10,7 @@ use Rattle.domain.specs.declared.entry.Place.{Place}
 use Rattle.domain.specs.declared.refusal.Refusal.{Refusal}
 use Rattle.domain.specs.declared.refusal.Refusal.TheVariants.{Form, Misplaced, NoSuchDay, BadAmount, BadNumber, WrongCount, TooMuch}
 use Rattle.domain.proofs.Sames.{decides_same_int}
+use Rattle.domain.specs.Accounts.{and_then}
 use Rattle.domain.specs.Limits.{is_number}
 use Rattle.text.specs.Lines.{content_of}
 use Rattle.domain.specs.declared.account.Account.{Account}
@@ -22,7 +24,7 @@ use Rattle.book_lines.specs.Reading.{line_of, entry_of, entry_in}
 use Rattle.book.specs.declared.state.Stage.{Stage}
 use Rattle.book.specs.declared.state.Stage.TheVariants.{Start, Within, Done}
 use Rattle.book.specs.declared.state.State.{State}
-use Rattle.book.specs.Judging.{demand, given, opened_state, entered_state, closed_state, is_start, is_within, is_done, opened_of, entered_of, closed_of, judged_of, step_of}
+use Rattle.book.specs.Judging.{demand, opened_state, entered_state, closed_state, is_start, is_within, is_done, opened_of, entered_of, closed_of, judged_of, step_of}
 use Rattle.book.specs.Sizes.{Sound}
 use Rattle.book.specs.Tallies.{Tallies}
 use Rattle.book.specs.Whole.{begin_for, head_of, place_of, stated_at}
@@ -32,7 +34,7 @@ met : {A : Type 0} (P : A → Type 0) (test : Bool) (why : Refusal) (next : Resu
 met P true why next h = h refl
 met P false why next h = tt
 
-known : {X A : Type 0} (P : A → Type 0) (o : Option X) (why : Refusal) (next : X → Result A Refusal) → ((x : X) → o ≡ Some x → IfOk (next x) P) → IfOk (given o why next) P
+known : {X A : Type 0} (P : A → Type 0) (o : Option X) (why : Refusal) (next : X → Result A Refusal) → ((x : X) → o ≡ Some x → IfOk (next x) P) → IfOk (and_then (ok_or o why) next) P
 known P (Some x) why next h = h x refl
 known P None why next h = tt
 
@@ -63,7 +65,7 @@ opened s o =
     (λ a. known P o.day _ _
     (λ day _. known P o.amount _ _
     (λ amount _. met P _ _ _
-    (λ _. met P (is_number o.number) BadNumber (Ok (opened_state s o day amount))
+    (λ _. met P (is_number o.number) BadNumber (Ok (opened_state s o (record { day = day; amount = amount })))
     (λ b. record {
       sound = λ _. record { few = omega arith; low = omega (arith, ints, amount.within.0); high = omega (arith, ints, amount.within.1) };
       tallies = λ z n t. record {
@@ -107,7 +109,7 @@ closed s z =
     (λ a. known P z.day _ _
     (λ day _. known P z.amount _ _
     (λ amount _. met P _ _ _
-    (λ b. met P (z.count == s.count) WrongCount (Ok (closed_state s day amount))
+    (λ b. met P (z.count == s.count) WrongCount (Ok (closed_state s (record { day = day; amount = amount })))
     (λ _. record {
       sound = λ h. record { few = h.few; low = h.low; high = h.high };
       tallies = λ y n t. record {

@@ -25,7 +25,7 @@ stated_at account line behind = entry_in (place_of line.0 (content_of line.1)) (
 
 -- what a text's opening and closing lines say when they have led to this end
 abbrev pub head_of : State → Head
-head_of end = record { number = end.number; opening_day = end.opening_day; closing_day = end.closing_day; reached = end.opening.minor; closing = end.closing; count = end.count }
+head_of end = record { number = end.number; opening_day = end.opening.day; closing_day = end.closing.day; reached = end.opening.amount.minor; closing = end.closing.amount; count = end.count }
 
 -- a text read as a cash book of an account with this currency and these digits
 abbrev pub read_of : List ℕ → List ℕ → ℕ → Result Statement Refused

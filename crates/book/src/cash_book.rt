@@ -44,13 +44,14 @@ impl Format for BookFormat {
         begin(account.currency)
     }
 
+    // Stays beside MT940's: it names fields of this format's own state, and a trait to read both states by would say each field three times.
     fn head(end: State) -> Head {
         Head {
             number: end.number,
-            opening_day: end.opening_day,
-            closing_day: end.closing_day,
-            reached: end.opening.minor(),
-            closing: end.closing,
+            opening_day: end.opening.day,
+            closing_day: end.closing.day,
+            reached: end.opening.amount.minor(),
+            closing: end.closing.amount,
             count: end.count,
         }
     }

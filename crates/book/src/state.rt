@@ -5,6 +5,7 @@ ghost use Rattle.book.specs.Sizes.{Sound};
 use book_lines::line::{Closing, Line, Opening, Row};
 use book_lines::reading::line_in;
 use domain::amount::Amount;
+use domain::balance::Balance;
 use domain::currency::Currency;
 use domain::day::Day;
 use domain::limits::{MOST_ENTRIES, is_number};
@@ -26,28 +27,28 @@ pub struct State {
     pub(crate) currency: Currency,
     pub(crate) stage: Stage,
     pub(crate) number: u32,
-    pub(crate) opening_day: Day,
-    pub(crate) opening: Amount,
+    pub(crate) opening: Balance,
     pub(crate) sum: i64,
     pub(crate) count: usize,
-    pub(crate) closing_day: Day,
-    pub(crate) closing: Amount,
+    pub(crate) closing: Balance,
 }
 
 // Before the first line.
 pub(crate) fn begin(currency: Currency) -> State
     ensures { result ≡ begun currency }
 {
+    let blank = Balance {
+        day: Day::FIRST,
+        amount: Amount::ZERO,
+    };
     State {
         currency,
         stage: Stage::Start,
         number: 0,
-        opening_day: Day::FIRST,
-        opening: Amount::ZERO,
+        opening: blank,
         sum: 0,
         count: 0,
-        closing_day: Day::FIRST,
-        closing: Amount::ZERO,
+        closing: blank,
     }
 }
 
@@ -59,8 +60,10 @@ impl State {
         if self.stage != Stage::Start {
             return Err(Refusal::Misplaced);
         }
-        let opening_day = line.day.ok_or(Refusal::NoSuchDay)?;
-        let opening = line.amount.ok_or(Refusal::BadAmount)?;
+        let opening = Balance {
+            day: line.day.ok_or(Refusal::NoSuchDay)?,
+            amount: line.amount.ok_or(Refusal::BadAmount)?,
+        };
         if line.currency != Some(self.currency) {
             return Err(Refusal::BadCurrency);
         }
@@ -70,9 +73,8 @@ impl State {
         Ok(State {
             stage: Stage::Within,
             number: line.number,
-            opening_day,
             opening,
-            sum: opening.minor(),
+            sum: opening.amount.minor(),
             count: 0,
             ..self
         })
@@ -106,9 +108,11 @@ impl State {
         if self.stage != Stage::Within {
             return Err(Refusal::Misplaced);
         }
-        let closing_day = line.day.ok_or(Refusal::NoSuchDay)?;
-        let closing = line.amount.ok_or(Refusal::BadAmount)?;
-        if closing.minor() != self.sum {
+        let closing = Balance {
+            day: line.day.ok_or(Refusal::NoSuchDay)?,
+            amount: line.amount.ok_or(Refusal::BadAmount)?,
+        };
+        if closing.amount.minor() != self.sum {
             return Err(Refusal::Unbalanced);
         }
         if line.count as usize != self.count {
@@ -116,7 +120,6 @@ impl State {
         }
         Ok(State {
             stage: Stage::Done,
-            closing_day,
             closing,
             ..self
         })
