@@ -31,6 +31,13 @@ pub enum Tag {
     Further,
 }
 
+// A line, taken apart: its tag, and what stands behind it.
+#[derive(Clone, Copy, PartialEq, Eq, Debug)]
+pub struct Field<'a> {
+    pub tag: Tag,
+    pub body: &'a [u8],
+}
+
 // The tag of a code that stands between colons.
 #[tactic(auto, unfolding(crate::specs::Tags::coded))]
 fn coded(code: &[u8]) -> Option<Tag>
@@ -54,23 +61,24 @@ fn coded(code: &[u8]) -> Option<Tag>
 // What a line is and what stands behind its tag, or none where its tag is unknown. A line with no tag of its own is the
 // hyphen that ends a page, or a further line; a colon or a hyphen begins none.
 #[tactic(auto, unfolding(crate::specs::Tags::tag_of, crate::specs::Tags::coded, crate::specs::Tags::plain_tag, crate::specs::Slices::starts_with))]
-pub fn tagged(line: &[u8]) -> Option<(Tag, &[u8])>
-    ensures is { option_map (λ p. p.0) result ≡ tag_of line.now }
-    ensures behind { IfSome result (λ p. p.1.now ≡ drop (width_of p.0) line.now) }
+pub fn tagged(line: &[u8]) -> Option<Field<'_>>
+    ensures is { option_map (λ f. f.tag) result ≡ tag_of line.now }
+    ensures behind { IfSome result (λ f. f.body.now ≡ drop (width_of f.tag) line.now) }
 {
-    match line {
-        [b':', a, b, b':', body @ ..] => Some((coded(&[*a, *b])?, body)),
-        [b':', a, b, c, b':', body @ ..] => Some((coded(&[*a, *b, *c])?, body)),
-        [b':', ..] => None,
-        [b'-'] => Some((Tag::Hyphen, &line[1..])),
-        [b'-', ..] => None,
-        _ => Some((Tag::Further, line)),
-    }
+    let (tag, body) = match line {
+        [b':', a, b, b':', body @ ..] => (coded(&[*a, *b])?, body),
+        [b':', a, b, c, b':', body @ ..] => (coded(&[*a, *b, *c])?, body),
+        [b':', ..] => return None,
+        [b'-'] => (Tag::Hyphen, &line[1..]),
+        [b'-', ..] => return None,
+        _ => (Tag::Further, line),
+    };
+    Some(Field { tag, body })
 }
 
 // Whether a line goes on with the entry before it: a further line, or a note.
 pub fn continues(line: &[u8]) -> bool
     ensures { result ≡ is_continuing line.now }
 {
-    matches!(tagged(line), Some((Tag::Note | Tag::Further, _)))
+    tagged(line).is_some_and(|field| matches!(field.tag, Tag::Note | Tag::Further))
 }

@@ -12,7 +12,7 @@ use domain::key::Key;
 use domain::refusal::Refusal;
 use mt940_cuts::cutting::{Parts, cut};
 use mt940_cuts::slices::{behind, front};
-use mt940_cuts::tag::{Tag, tagged};
+use mt940_cuts::tag::{Field, Tag, tagged};
 
 // All that an entry has but its place. It is no `Entry`, since a line does not know where in its text it stands.
 #[derive(Clone, Copy)]
@@ -56,8 +56,9 @@ pub fn movement_in(body: &[u8], parts: Parts, digits: Digits) -> Result<Movement
 pub fn stated(line: &[u8], digits: Digits) -> Option<Movement>
     ensures { result ≡ stated_in digits line.now }
 {
-    match tagged(line)? {
-        (Tag::Entry, body) => movement_in(body, cut(body)?, digits).ok(),
-        _ => None,
+    let Field { tag, body } = tagged(line)?;
+    if tag != Tag::Entry {
+        return None;
     }
+    movement_in(body, cut(body)?, digits).ok()
 }

@@ -12,11 +12,15 @@ use domain::limits::{MOST_ENTRIES, is_number};
 use domain::refusal::Refusal;
 use mt940_cuts::cutting::cut;
 use mt940_cuts::slices::is_sized;
-use mt940_cuts::tag::{Page, Tag, tagged};
+use mt940_cuts::tag::{Field, Page, Tag, tagged};
 use mt940_fields::balance::{Balance, balance_in, balance_mark};
 use mt940_fields::movement::movement_in;
 use mt940_fields::number::{PageNumber, numbers};
 use text::{Reading, is_formed};
+
+// The most bytes of a :20: or a :21:, and of a :25:.
+const LONGEST_REFERENCE: usize = 16;
+const LONGEST_ACCOUNT: usize = 35;
 
 // What has been read: the account's currency and digits, where in its page the reader stands, the statement's number
 // and the pages that have come, its opening, the last closing, how many entries have come, and their amounts added.
@@ -74,13 +78,13 @@ impl State {
 
     // :20:, :21: and :25:, of which nothing is kept.
     #[tactic(auto, unfolding(crate::specs::Judging::named_of))]
-    fn named(self, tag: Tag, body: &[u8], most: usize) -> Result<State, Refusal>
-        ensures { result ≡ named_of self tag most body.now }
+    fn named(self, field: Field<'_>, most: usize) -> Result<State, Refusal>
+        ensures { result ≡ named_of self field.entry.tag most field.entry.body.now }
     {
-        if !is_sized(body, most) {
+        if !is_sized(field.body, most) {
             return Err(Refusal::Form);
         }
-        self.passed(tag)
+        self.passed(field.tag)
     }
 
     // Whether a page follows the pages before: page 1 of a number from 1 to 99,999, or the next page of the same number.
@@ -112,12 +116,12 @@ impl State {
     }
 
     #[tactic(auto, unfolding(crate::specs::Judging::arrived_of))]
-    fn arrived(self, tag: Tag, body: &[u8]) -> Result<Arrival, Refusal>
-        ensures { result ≡ arrived_of self tag body.now }
+    fn arrived(self, field: Field<'_>) -> Result<Arrival, Refusal>
+        ensures { result ≡ arrived_of self field.entry.tag field.entry.body.now }
     {
-        let mark = balance_mark(body).ok_or(Refusal::Form)?;
-        let stage = place(self.stage, tag)?;
-        let balance = balance_in(body, mark, self.digits, self.currency)?;
+        let mark = balance_mark(field.body).ok_or(Refusal::Form)?;
+        let stage = place(self.stage, field.tag)?;
+        let balance = balance_in(field.body, mark, self.digits, self.currency)?;
         Ok(Arrival { stage, balance })
     }
 
@@ -126,7 +130,8 @@ impl State {
     fn opened_first(self, body: &[u8]) -> Result<State, Refusal>
         ensures { result ≡ opened_first self body.now }
     {
-        let Arrival { stage, balance } = self.arrived(Tag::Opening(Page::First), body)?;
+        let tag = Tag::Opening(Page::First);
+        let Arrival { stage, balance } = self.arrived(Field { tag, body })?;
         Ok(State {
             stage,
             opening_day: balance.day,
@@ -147,7 +152,8 @@ impl State {
     fn opened_later(self, body: &[u8]) -> Result<State, Refusal>
         ensures { result ≡ opened_later self body.now }
     {
-        let Arrival { stage, balance } = self.arrived(Tag::Opening(Page::Later), body)?;
+        let tag = Tag::Opening(Page::Later);
+        let Arrival { stage, balance } = self.arrived(Field { tag, body })?;
         if !self.is_repeat(balance) {
             return Err(Refusal::Unbalanced);
         }
@@ -164,11 +170,11 @@ impl State {
 
     // :62F: and :62M: close a page.
     #[tactic(auto, unfolding(crate::specs::Judging::closed_of))]
-    fn closed(self, tag: Tag, body: &[u8]) -> Result<State, Refusal>
+    fn closed(self, field: Field<'_>) -> Result<State, Refusal>
         requires { Sound self }
-        ensures { result ≡ closed_of self tag body.now }
+        ensures { result ≡ closed_of self field.entry.tag field.entry.body.now }
     {
-        let Arrival { stage, balance } = self.arrived(tag, body)?;
+        let Arrival { stage, balance } = self.arrived(field)?;
         if balance.amount.minor() != self.total() {
             return Err(Refusal::Unbalanced);
         }
@@ -201,18 +207,19 @@ impl State {
     }
 
     // What stands behind a tag.
-    fn field(self, tag: Tag, body: &[u8]) -> Result<State, Refusal>
+    fn field(self, field: Field<'_>) -> Result<State, Refusal>
         requires { Sound self }
-        ensures { result ≡ field_of self tag body.now }
+        ensures { result ≡ field_of self field.entry.tag field.entry.body.now }
     {
+        let Field { tag, body } = field;
         match tag {
-            Tag::Reference | Tag::Related => self.named(tag, body, 16),
-            Tag::Account => self.named(tag, body, 35),
+            Tag::Reference | Tag::Related => self.named(field, LONGEST_REFERENCE),
+            Tag::Account => self.named(field, LONGEST_ACCOUNT),
             Tag::Number => self.numbered(body),
             Tag::Opening(Page::First) => self.opened_first(body),
             Tag::Opening(Page::Later) => self.opened_later(body),
             Tag::Entry => self.entered(body),
-            Tag::Closing(_) => self.closed(tag, body),
+            Tag::Closing(_) => self.closed(field),
             Tag::Note | Tag::Hyphen | Tag::Further => self.passed(tag),
         }
     }
@@ -231,11 +238,11 @@ impl Reading for State {
         if !is_formed(line) {
             return Err(Refusal::Form);
         }
-        let (tag, body) = tagged(line).ok_or(Refusal::Form)?;
-        self.field(tag, body)
+        let field = tagged(line).ok_or(Refusal::Form)?;
+        self.field(field)
     }
 
     fn is_complete(&self) -> bool {
-        matches!(self.stage, Stage::Done)
+        self.stage == Stage::Done
     }
 }

@@ -6,4 +6,4 @@ use Rattle.mt940_pages.proofs.Goings.{field_sound}
 use Rattle.mt940_pages.proofs.state.StateReading.step.Goals as goal
 
 pub returns-clause-again : goal.returns-clause-again
-returns-clause-again c = subst (λ (r : Result State Refusal). IfOk r Sound) (sym c.field.ensures) (field_sound c.args.self c.in_ok-tag.tag _ c.requires)
+returns-clause-again c = subst (λ (r : Result State Refusal). IfOk r Sound) (sym c.field.ensures) (field_sound c.args.self _ _ c.requires)
