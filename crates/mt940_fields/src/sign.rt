@@ -10,13 +10,13 @@ use fields::comma_amount;
 use mt940_cuts::mark::Mark;
 
 // The amount with the sign that its mark gives it.
-#[tactic(auto, unfolding(crate::specs::Signs::signed_as))]
-pub fn signed(mark: Mark, unsigned: Amount) -> Result<Amount, Refusal>
-    ensures { result ≡ ok_or (signed_as mark unsigned) Refusal.BadAmount }
+#[tactic(auto, unfolding(crate::specs::Signs::signed_as), using(domain::proofs::Same::amount_same))]
+pub fn signed(mark: Mark, unsigned: Amount) -> Amount
+    ensures { result ≡ signed_as mark unsigned }
 {
     match mark {
-        Mark::Credit | Mark::DebitReversed => Amount::try_from(unsigned.minor()),
-        Mark::Debit | Mark::CreditReversed => Amount::try_from(-unsigned.minor()),
+        Mark::Credit | Mark::DebitReversed => unsigned,
+        Mark::Debit | Mark::CreditReversed => -unsigned,
     }
 }
 
@@ -26,5 +26,5 @@ pub fn amount_in(bytes: &[u8], mark: Mark, digits: Digits) -> Result<Amount, Ref
     ensures { result ≡ ok_or (amount_in digits mark bytes.now) Refusal.BadAmount }
 {
     let (unsigned, _) = comma_amount(bytes, digits)?;
-    signed(mark, unsigned)
+    Ok(signed(mark, unsigned))
 }
