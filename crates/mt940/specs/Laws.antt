@@ -41,7 +41,7 @@ pub adds : (account : Account) (z : ℤ) (n : ℕ) (s u : State) (line : ℕ × 
     Tallies account (readers.sum_with z (stated_at account line behind)) (readers.count_with n (stated_at account line behind)) u
 adds account z n s u line behind t e =
     let o : Option Movement = stated_in account.digits (content_of line.1) in
-    let w : Went s o u = subst (λ d. Went s (stated_in d (content_of line.1)) u) t.digits (IfOk-at_ok (Went s (stated_in s.digits (content_of line.1))) e (went_step s (content_of line.1))) in
+    let w : Went s o u = subst (λ d. Went s (stated_in d (content_of line.1)) u) t.digits (IfOk-at_ok (Went s (stated_in s.account.digits (content_of line.1))) e (went_step s (content_of line.1))) in
     let place : Place = place_of line behind in
     record {
       digits = w.digits ∙ t.digits;

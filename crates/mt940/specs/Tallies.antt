@@ -6,7 +6,7 @@ use Rattle.mt940_pages.specs.Sizes.{Sound}
 
 -- in this account entries of this sum and number have come
 pub record Tallies (account : Account) (z : ℤ) (n : ℕ) (s : State) : Type 0 where
-  pub digits : s.digits ≡ account.digits
+  pub digits : s.account.digits ≡ account.digits
   pub moved : s.moved ≡ z
   pub count : s.count ≡ n
   pub sound : Sound s

@@ -10,11 +10,11 @@ use Rattle.mt940_pages.specs.Judging.{begin, is_done, step_of}
 use Rattle.mt940.specs.Entries.{stated_at}
 
 abbrev pub begin_for : Account → State
-begin_for account = begin account.currency account.digits
+begin_for account = begin (record { currency = account.currency; digits = account.digits })
 
 -- what a text's lines say when they have led to this end
 abbrev pub head_of : State → Head
-head_of end = record { number = end.number; opening_day = end.opening_day; closing_day = end.closing_day; reached = end.opening.minor; closing = end.closing; count = end.count }
+head_of end = record { number = end.at.number; opening_day = end.opening.day; closing_day = end.closing.day; reached = end.opening.amount.minor; closing = end.closing.amount; count = end.count }
 
 -- the statement that a text makes in an account of this currency and these digits, or the refusal and the offset of its line
 abbrev pub read_of : List ℕ → List ℕ → ℕ → Result Statement Refused

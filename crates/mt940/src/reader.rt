@@ -43,16 +43,17 @@ impl Format for Mt940Format {
     ghost closes = { closes };
 
     fn begin(account: Account) -> State {
-        begin(account.currency, account.digits)
+        let Account { currency, digits } = account;
+        begin(domain::account::Account { currency, digits })
     }
 
     fn head(end: State) -> Head {
         Head {
-            number: end.number,
-            opening_day: end.opening_day,
-            closing_day: end.closing_day,
-            reached: end.opening.minor(),
-            closing: end.closing,
+            number: end.at.number,
+            opening_day: end.opening.day,
+            closing_day: end.closing.day,
+            reached: end.opening.amount.minor(),
+            closing: end.closing.amount,
             count: end.count,
         }
     }

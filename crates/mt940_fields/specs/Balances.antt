@@ -1,12 +1,12 @@
 -- Balances: C or D, YYMMDD, currency, amount.
 use Rattle.std.specs.Prelude.{ℕ, cond, ◌&&◌, List, length, take, drop, Some, None, Ok, Err, codes, Option, Result, ◌==◌}
-use Rattle.domain.specs.declared.digits.Digits.{Digits}
+use Rattle.domain.specs.declared.account.Account.{Account}
+use Rattle.domain.specs.declared.balance.Balance.{Balance}
 use Rattle.domain.specs.declared.refusal.Refusal.{Refusal}
 use Rattle.domain.specs.declared.refusal.Refusal.TheVariants.{NoSuchDay, BadAmount, BadCurrency}
 use Rattle.domain.specs.References.{same_bytes}
 use Rattle.fields.specs.Runs.{run_length}
 use Rattle.calendar.specs.Dates.{day_in}
-use Rattle.mt940_fields.specs.declared.balance.Balance.{Balance}
 use Rattle.mt940_cuts.specs.declared.mark.Mark.{Mark}
 use Rattle.mt940_cuts.specs.declared.mark.Mark.TheVariants.{Credit, Debit}
 use Rattle.mt940_fields.specs.Signs.{amount_in}
@@ -29,13 +29,13 @@ run_in body = drop 10 body
 unfoldable pub balance_mark : List ℕ → Option Mark
 balance_mark body = cond (is_date 6 (date_in body) && run_length (run_in body) == length (run_in body)) (sign_of body) None
 
--- a balance that has its form, in an account of this currency: its day, its amount and its currency, judged in this order
-unfoldable pub balance_of : Digits → List ℕ → Mark → List ℕ → Result Balance Refusal
-balance_of digits own mark body =
+-- a balance that has its form, in this account: its day, its amount and its currency, judged in this order
+unfoldable pub balance_of : Account → Mark → List ℕ → Result Balance Refusal
+balance_of account mark body =
     elim (day_in (date_in body)) [
       | None ↦ Err NoSuchDay
-      | Some d ↦ elim (amount_in digits mark (run_in body)) [
+      | Some d ↦ elim (amount_in account.digits mark (run_in body)) [
         | None ↦ Err BadAmount
-        | Some a ↦ cond (same_bytes (currency_in body) own) (Ok (record { day = d; amount = a })) (Err BadCurrency)
+        | Some a ↦ cond (same_bytes (currency_in body) account.currency.code) (Ok (record { day = d; amount = a })) (Err BadCurrency)
       ]
     ]

@@ -4,21 +4,13 @@ ghost use Rattle.mt940_fields.specs.Balances.{sign_of, balance_mark, balance_of}
 
 use crate::sign::amount_in;
 use calendar::day_in;
-use domain::amount::Amount;
-use domain::currency::Currency;
-use domain::day::Day;
-use domain::digits::Digits;
+use domain::account::Account;
+use domain::balance::Balance;
 use domain::entry::Kind;
 use domain::refusal::Refusal;
 use fields::run_length;
 use mt940_cuts::mark::{Mark, mark_of};
 use mt940_cuts::slices::{behind, digits, front};
-
-#[derive(Clone, Copy, PartialEq, Eq)]
-pub struct Balance {
-    pub day: Day,
-    pub amount: Amount,
-}
 
 // The mark at the front, which reverses nothing.
 #[tactic(auto, unfolding(mt940_cuts::specs::Marks::mark_of))]
@@ -43,19 +35,13 @@ pub fn balance_mark(body: &[u8]) -> Option<Mark>
 }
 
 // A balance that has its form: its day, its amount, and its currency, which must be the account's.
-// Digits and currency are no struct: only here are both asked for, and a state's readers know them as two fields.
 #[tactic(auto, unfolding(crate::specs::Balances::balance_of))]
-pub fn balance_in(
-    body: &[u8],
-    mark: Mark,
-    digits: Digits,
-    currency: Currency,
-) -> Result<Balance, Refusal>
-    ensures { result ≡ balance_of digits currency.code mark body.now }
+pub fn balance_in(body: &[u8], mark: Mark, account: Account) -> Result<Balance, Refusal>
+    ensures { result ≡ balance_of account mark body.now }
 {
     let day = day_in(front(behind(body, 1), 6)).ok_or(Refusal::NoSuchDay)?;
-    let amount = amount_in(behind(body, 10), mark, digits)?;
-    let own = currency.code();
+    let amount = amount_in(behind(body, 10), mark, account.digits)?;
+    let own = account.currency.code();
     if front(behind(body, 7), 3) != own.as_slice() {
         return Err(Refusal::BadCurrency);
     }

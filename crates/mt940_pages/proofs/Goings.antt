@@ -40,7 +40,7 @@ abbrev pub count_with : ℕ → Option Movement → ℕ
 count_with n o = elim o [ None ↦ n | Some m ↦ n + 1 ]
 
 pub record Went (s : State) (o : Option Movement) (u : State) : Type 0 where
-  pub digits : u.digits ≡ s.digits
+  pub digits : u.account.digits ≡ s.account.digits
   pub moved : u.moved ≡ sum_with s.moved o
   pub count : u.count ≡ count_with s.count o
   pub sound : Sound s → Sound u
@@ -76,7 +76,7 @@ unfolding numbered_of next_page
 went_numbered s body =
     made_need (Went s None) _ (numbers_of body) Form
     (λ p _. made_then (Went s None) _ (placed s.stage Number)
-    (λ g e. cond_both (next_page s p.number p.page) (Ok (paged s g p.number p.page)) (Err BadNumber) (λ r. IfOk r (Went s None))
+    (λ g e. cond_both (next_page s p) (Ok (paged s g p)) (Err BadNumber) (λ r. IfOk r (Went s None))
     (λ t. record {
       digits = refl;
       moved = refl;
@@ -98,7 +98,7 @@ arrived_stage s t body =
     let P : Arrival → Type 0 = λ a. placed s.stage t ≡ Ok a.stage in
     made_need P _ (balance_mark body) Form
     (λ mark _. made_then P _ (placed s.stage t)
-    (λ g e. made_then P (λ b. Ok (record { stage = g; balance = b })) (balance_of s.digits s.currency.code mark body) (λ b _. e)))
+    (λ g e. made_then P (λ b. Ok (record { stage = g; balance = b })) (balance_of s.account mark body) (λ b _. e)))
 
 went_opened : (s : State) (body : List ℕ) → IfOk (opened_first s body) (Went s None)
 unfolding opened_first
@@ -145,15 +145,15 @@ add_sound s g m f n k =
       balanced = λ c. absurd (n c);
     }
 
-went_entered : (s : State) (body : List ℕ) → IfOk (entered_of s body) (Went s (stated_by s.digits body))
+went_entered : (s : State) (body : List ℕ) → IfOk (entered_of s body) (Went s (stated_by s.account.digits body))
 unfolding entered_of
 went_entered s body =
-    let P : State → Type 0 = Went s (stated_by s.digits body) in
+    let P : State → Type 0 = Went s (stated_by s.account.digits body) in
     made_need P _ (parts_of body) Form
     (λ p e. made_then P _ (placed s.stage Entry)
-    (λ g f. made_then P _ (movement_of s.digits p body)
+    (λ g f. made_then P _ (movement_of s.account.digits p body)
     (λ m h.
-    let is : stated_by s.digits body ≡ Some m = ap (λ (o : Option Parts). elim o as (λ _. Option Movement) [ None ↦ None | Some q ↦ result_ok (movement_of s.digits q body) ]) e ∙ ap result_ok h in
+    let is : stated_by s.account.digits body ≡ Some m = ap (λ (o : Option Parts). elim o as (λ _. Option Movement) [ None ↦ None | Some q ↦ result_ok (movement_of s.account.digits q body) ]) e ∙ ap result_ok h in
     cond_both (leb 4096 s.count) (Err TooMuch) (Ok (added s g m)) (λ r. IfOk r P)
     (λ _. tt)
     (λ room. record {
@@ -165,7 +165,7 @@ went_entered s body =
 
 -- a line of a tag, by what stands behind the tag
 abbrev stated_as : State → Tag → List ℕ → Option Movement
-stated_as s t body = cond (eqb (code t) (code Entry)) (stated_by s.digits body) None
+stated_as s t body = cond (eqb (code t) (code Entry)) (stated_by s.account.digits body) None
 
 went_field : (s : State) (t : Tag) (body : List ℕ) → IfOk (field_of s t body) (Went s (stated_as s t body))
 went_field s Reference body = went_named s Reference 16 body refl
@@ -182,7 +182,7 @@ went_field s Hyphen body = went_passed s Hyphen refl
 went_field s Further body = went_passed s Further refl
 
 -- a line states what its tag says
-stated_is : (s : State) (line : List ℕ) (t : Tag) → tag_of line ≡ Some t → stated_in s.digits line ≡ stated_as s t (drop (width_of t) line)
+stated_is : (s : State) (line : List ℕ) (t : Tag) → tag_of line ≡ Some t → stated_in s.account.digits line ≡ stated_as s t (drop (width_of t) line)
 unfolding stated_in
 stated_is s line Reference e = cc
 stated_is s line Related e = cc
@@ -197,10 +197,10 @@ stated_is s line Note e = cc
 stated_is s line Hyphen e = cc
 stated_is s line Further e = cc
 
-pub went_step : (s : State) (line : List ℕ) → IfOk (step_of s line) (Went s (stated_in s.digits line))
+pub went_step : (s : State) (line : List ℕ) → IfOk (step_of s line) (Went s (stated_in s.account.digits line))
 unfolding step_of
 went_step s line =
-    let P : State → Type 0 = Went s (stated_in s.digits line) in
+    let P : State → Type 0 = Went s (stated_in s.account.digits line) in
     cond_both (is_formed line) (need (tag_of line) Form (λ t. field_of s t (drop (width_of t) line))) (Err Form) (λ r. IfOk r P)
     (λ _. made_need P (λ t. field_of s t (drop (width_of t) line)) (tag_of line) Form
     (λ t e. let Q : Option Movement → Type 0 = λ o. IfOk (field_of s t (drop (width_of t) line)) (Went s o) in subst Q (sym (stated_is s line t e)) (went_field s t (drop (width_of t) line))))

@@ -1,16 +1,16 @@
 -- What one line more leads to. Each line is judged in ascending order of refusal: form, place, day, amount, currency, number, balance, count.
 use Rattle.std.specs.Prelude.{ℕ, ◌+◌, Bool, true, false, cond, ◌&&◌, ◌||◌, List, drop, ℤ, pos, ◌+ℤ◌, Some, None, Ok, Err, Option, Result, ◌==◌, nat_le}
 use Rattle.std.specs.Ordering.{int_eq}
-use Rattle.domain.specs.declared.currency.Currency.{Currency}
-use Rattle.domain.specs.declared.digits.Digits.{Digits}
+use Rattle.domain.specs.declared.account.Account.{Account as Kept}
+use Rattle.domain.specs.declared.balance.Balance.{Balance}
 use Rattle.domain.specs.declared.refusal.Refusal.{Refusal}
 use Rattle.domain.specs.declared.refusal.Refusal.TheVariants.{Form, BadNumber, Unbalanced, TooMuch}
 use Rattle.domain.specs.Blanks.{day_zero, zero_amount}
 use Rattle.domain.specs.Entries.{same_int}
 use Rattle.domain.specs.Limits.{is_number}
 use Rattle.text.specs.Lines.{is_formed}
-use Rattle.mt940_fields.specs.declared.balance.Balance.{Balance}
 use Rattle.mt940_fields.specs.declared.movement.Movement.{Movement}
+use Rattle.mt940_fields.specs.declared.number.PageNumber.{PageNumber}
 use Rattle.mt940_cuts.specs.declared.tag.Tag.{Tag}
 use Rattle.mt940_cuts.specs.declared.tag.Tag.TheVariants.{Reference, Related, Account, Number, Opening, Entry, Closing, Note, Hyphen, Further}
 use Rattle.mt940_cuts.specs.declared.tag.Page.TheVariants.{First, Later}
@@ -27,9 +27,13 @@ use Rattle.mt940_pages.specs.declared.state.Arrival.{Arrival}
 use Rattle.mt940_pages.specs.declared.state.State.{State}
 use Rattle.mt940_pages.specs.Stages.{placed}
 
+-- the balance of a statement that has brought none
+abbrev pub no_balance : Balance
+no_balance = record { day = day_zero; amount = zero_amount }
+
 -- before the first line: no page has come
-abbrev pub begin : Currency → Digits → State
-begin own digits = record { currency = own; digits = digits; stage = Start First; number = 1; page = 0; opening_day = day_zero; opening = zero_amount; closing_day = day_zero; closing = zero_amount; moved = pos 0; count = 0 }
+abbrev pub begin : Kept → State
+begin account = record { account = account; stage = Start First; at = record { number = 1; page = 0 }; opening = no_balance; closing = no_balance; moved = pos 0; count = 0 }
 
 -- nothing follows the last page
 abbrev pub is_last : Stage → Bool
@@ -62,32 +66,32 @@ unfoldable pub named_of : State → Tag → ℕ → List ℕ → Result State Re
 named_of s t most body = cond (is_sized most body) (passed_of s t) (Err Form)
 
 -- page 1 of a number from 1 to 99,999, or the next page of the same number
-unfoldable pub next_page : State → ℕ → ℕ → Bool
-next_page s number page = is_number number && (page == s.page + 1 && (page == 1 || number == s.number))
+unfoldable pub next_page : State → PageNumber → Bool
+next_page s next = is_number next.number && (next.page == s.at.page + 1 && (next.page == 1 || next.number == s.at.number))
 
-abbrev pub paged : State → Stage → ℕ → ℕ → State
-paged s g number page = record s { stage = g; number = number; page = page }
+abbrev pub paged : State → Stage → PageNumber → State
+paged s g next = record s { stage = g; at = next }
 
 -- :28C:
 unfoldable pub numbered_of : State → List ℕ → Result State Refusal
 numbered_of s body =
     need (numbers_of body) Form (λ p.
     and_then (placed s.stage Number) (λ g.
-    cond (next_page s p.number p.page) (Ok (paged s g p.number p.page)) (Err BadNumber)))
+    cond (next_page s p) (Ok (paged s g p)) (Err BadNumber)))
 
 -- a balance that is permitted where it stands, and the stage that it leads to
 unfoldable pub arrived_of : State → Tag → List ℕ → Result Arrival Refusal
 arrived_of s t body =
     need (balance_mark body) Form (λ mark.
     and_then (placed s.stage t) (λ g.
-    and_then (balance_of s.digits s.currency.code mark body) (λ b. Ok (record { stage = g; balance = b }))))
+    and_then (balance_of s.account mark body) (λ b. Ok (record { stage = g; balance = b }))))
 
 -- the statement's opening plus the entries so far
 abbrev pub sum_of : State → ℤ
-sum_of s = s.opening.minor +ℤ s.moved
+sum_of s = s.opening.amount.minor +ℤ s.moved
 
 abbrev pub opened : State → Arrival → State
-opened s a = record s { stage = a.stage; opening_day = a.balance.day; opening = a.balance.amount }
+opened s a = record s { stage = a.stage; opening = a.balance }
 
 -- :60F: opens the statement
 unfoldable pub opened_first : State → List ℕ → Result State Refusal
@@ -95,14 +99,14 @@ opened_first s body = and_then (arrived_of s (Opening First) body) (λ a. Ok (op
 
 -- a balance with the day and the amount of the last closing
 abbrev pub repeats : State → Balance → Bool
-repeats s b = b.day.number == s.closing_day.number && int_eq b.amount.minor s.closing.minor
+repeats s b = b.day.number == s.closing.day.number && int_eq b.amount.minor s.closing.amount.minor
 
 -- :60M: repeats the :62M: before
 unfoldable pub opened_later : State → List ℕ → Result State Refusal
 opened_later s body = and_then (arrived_of s (Opening Later) body) (λ a. cond (repeats s a.balance) (Ok (staged s a.stage)) (Err Unbalanced))
 
 abbrev pub closed : State → Arrival → State
-closed s a = record s { stage = a.stage; closing_day = a.balance.day; closing = a.balance.amount }
+closed s a = record s { stage = a.stage; closing = a.balance }
 
 -- A :62: is the opening plus the entries. Since each :60M: repeats the :62M: before, the statement's opening plus all
 -- entries so far is the page's opening plus its own entries.
@@ -117,7 +121,7 @@ unfoldable pub entered_of : State → List ℕ → Result State Refusal
 entered_of s body =
     need (parts_of body) Form (λ p.
     and_then (placed s.stage Entry) (λ g.
-    and_then (movement_of s.digits p body) (λ m.
+    and_then (movement_of s.account.digits p body) (λ m.
     cond (nat_le 4096 s.count) (Err TooMuch) (Ok (added s g m)))))
 
 -- what stands behind a tag

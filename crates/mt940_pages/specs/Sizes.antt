@@ -17,5 +17,5 @@ pub record Sound (s : State) : Type 0 where
   pub few : s.count ≤ 4096
   pub low : neg_ℤ (pos (99999999999999 * s.count)) ≤ℤ s.moved
   pub high : s.moved ≤ℤ pos (99999999999999 * s.count)
-  pub numbered : (1 ≤ s.number) × (s.number ≤ 99999)
-  pub balanced : is_closed s.stage ≡ true → s.closing.minor ≡ sum_of s
+  pub numbered : (1 ≤ s.at.number) × (s.at.number ≤ 99999)
+  pub balanced : is_closed s.stage ≡ true → s.closing.amount.minor ≡ sum_of s

@@ -32,6 +32,7 @@ fn after_hyphen(end: End) -> Stage
 }
 
 // The stage that a line leads to, or none where its tag is not permitted here.
+// One match over both: stage and tag decide the next stage together, which is a rule of the project.
 pub fn follow(stage: Stage, tag: Tag) -> Option<Stage>
     ensures { result ≡ next_stage stage tag }
 {

@@ -4,16 +4,16 @@ ghost use Rattle.mt940_pages.specs.Judging.{arrived_of, begin as begun, closed_o
 ghost use Rattle.mt940_pages.specs.Sizes.{Sound};
 
 use crate::stage::{Stage, place};
+use domain::account::Account;
 use domain::amount::Amount;
-use domain::currency::Currency;
+use domain::balance::Balance;
 use domain::day::Day;
-use domain::digits::Digits;
 use domain::limits::{MOST_ENTRIES, is_number};
 use domain::refusal::Refusal;
 use mt940_cuts::cutting::cut;
 use mt940_cuts::slices::is_sized;
 use mt940_cuts::tag::{Field, Page, Tag, tagged};
-use mt940_fields::balance::{Balance, balance_in, balance_mark};
+use mt940_fields::balance::{balance_in, balance_mark};
 use mt940_fields::movement::movement_in;
 use mt940_fields::number::{PageNumber, numbers};
 use text::{Reading, is_formed};
@@ -22,38 +22,35 @@ use text::{Reading, is_formed};
 const LONGEST_REFERENCE: usize = 16;
 const LONGEST_ACCOUNT: usize = 35;
 
-// What has been read: the account's currency and digits, where in its page the reader stands, the statement's number
-// and the pages that have come, its opening, the last closing, how many entries have come, and their amounts added.
+// What has been read: the account that it is read for, where in its page the reader stands, which page that is, the
+// statement's opening, the last closing, how many entries have come, and their amounts added.
 #[derive(Clone, Copy)]
 pub struct State {
-    pub currency: Currency,
-    pub digits: Digits,
+    pub account: Account,
     pub stage: Stage,
-    pub number: u32,
-    pub page: u32,
-    pub opening_day: Day,
-    pub opening: Amount,
-    pub closing_day: Day,
-    pub closing: Amount,
+    pub at: PageNumber,
+    pub opening: Balance,
+    pub closing: Balance,
     pub moved: i64,
     pub count: usize,
 }
 
-// Before the first line.
-pub fn begin(currency: Currency, digits: Digits) -> State
-    ensures is { result ≡ begun currency digits }
+// Before the first line. Number 1 and the balances are no answers yet, and no `Option`s: a statement that has ended
+// has brought them all, and each reader would have to ask again.
+pub fn begin(account: Account) -> State
+    ensures is { result ≡ begun account }
     ensures again { Sound result }
 {
+    let none = Balance {
+        day: Day::FIRST,
+        amount: Amount::ZERO,
+    };
     State {
-        currency,
-        digits,
+        account,
         stage: Stage::Start { page: Page::First },
-        number: 1,
-        page: 0,
-        opening_day: Day::FIRST,
-        opening: Amount::ZERO,
-        closing_day: Day::FIRST,
-        closing: Amount::ZERO,
+        at: PageNumber { number: 1, page: 0 },
+        opening: none,
+        closing: none,
         moved: 0,
         count: 0,
     }
@@ -90,11 +87,11 @@ impl State {
     // Whether a page follows the pages before: page 1 of a number from 1 to 99,999, or the next page of the same number.
     #[tactic(auto, unfolding(crate::specs::Judging::next_page))]
     fn follows_on(self, next: PageNumber) -> bool
-        ensures { result ≡ next_page self next.number next.page }
+        ensures { result ≡ next_page self next }
     {
         is_number(next.number)
-            && self.page.checked_add(1) == Some(next.page)
-            && (next.page == 1 || next.number == self.number)
+            && self.at.page.checked_add(1) == Some(next.page)
+            && (next.page == 1 || next.number == self.at.number)
     }
 
     // :28C:.
@@ -109,8 +106,7 @@ impl State {
         }
         Ok(State {
             stage,
-            number: next.number,
-            page: next.page,
+            at: next,
             ..self
         })
     }
@@ -121,7 +117,7 @@ impl State {
     {
         let mark = balance_mark(field.body).ok_or(Refusal::Form)?;
         let stage = place(self.stage, field.tag)?;
-        let balance = balance_in(field.body, mark, self.digits, self.currency)?;
+        let balance = balance_in(field.body, mark, self.account)?;
         Ok(Arrival { stage, balance })
     }
 
@@ -134,8 +130,7 @@ impl State {
         let Arrival { stage, balance } = self.arrived(Field { tag, body })?;
         Ok(State {
             stage,
-            opening_day: balance.day,
-            opening: balance.amount,
+            opening: balance,
             ..self
         })
     }
@@ -144,7 +139,7 @@ impl State {
     fn is_repeat(self, balance: Balance) -> bool
         ensures { result ≡ repeats self balance }
     {
-        balance.day == self.closing_day && balance.amount == self.closing
+        balance == self.closing
     }
 
     // :60M: repeats the :62M: before.
@@ -165,7 +160,7 @@ impl State {
         requires { Sound self }
         ensures { result ≡ sum_of self }
     {
-        self.opening.minor() + self.moved
+        self.opening.amount.minor() + self.moved
     }
 
     // :62F: and :62M: close a page.
@@ -180,8 +175,7 @@ impl State {
         }
         Ok(State {
             stage,
-            closing_day: balance.day,
-            closing: balance.amount,
+            closing: balance,
             ..self
         })
     }
@@ -194,7 +188,7 @@ impl State {
     {
         let parts = cut(body).ok_or(Refusal::Form)?;
         let stage = place(self.stage, Tag::Entry)?;
-        let movement = movement_in(body, parts, self.digits)?;
+        let movement = movement_in(body, parts, self.account.digits)?;
         if self.count >= MOST_ENTRIES {
             return Err(Refusal::TooMuch);
         }
