@@ -1,9 +1,5 @@
 -- What is known of a denial by what a check answered.
-use Rattle.std.proofs.Common.{◌≡◌, ℕ, ◌+◌, nat_lt, Bool, true, false, not, ℤ, Some, None, Ok, Err, Option, Result, refl, sym, ap, ◌∙◌}
-use Rattle.std.proofs.lemmas.Bool.{cond-false}
-use Rattle.domain.specs.Limits.{is_number}
-use Rattle.domain.specs.declared.amount.Amount.{Amount}
-use Rattle.domain.specs.declared.day.Day.{Day}
+use Rattle.std.proofs.Common.{◌≡◌, ℕ, ◌+◌, nat_lt, Bool, true, false, ℤ, Some, None, Ok, Err, Option, Result, refl, sym, ap, ◌∙◌}
 use Rattle.domain.specs.declared.entry.Side.{Side}
 use Rattle.domain.specs.declared.refusal.Refusal.{Refusal}
 use Rattle.domain.specs.declared.refusal.Refusal.TheVariants.{BadTable, NoRoom}
@@ -11,9 +7,10 @@ use Rattle.ledger.specs.declared.ledger.Ledger.{Ledger}
 use Rattle.ledger.specs.declared.denied.Denied.{Denied}
 use Rattle.ledger.specs.Denials.{answered, bad_table, handed, refused_if, table_denied, unless}
 use Rattle.ledger.specs.Records.{if_ok, side_of, follow_denied}
-use Rattle.ledger.specs.Intakes.{begin_denied}
 use Rattle.source.specs.declared.Head.{Head}
 use Rattle.source.specs.Statement.{Statement, HeadOf}
+use Rattle.ledger.specs.declared.record.Heading.{Heading}
+use Rattle.ledger.specs.Headings.{heading_of}
 use Rattle.ledger.specs.Takings.{room_denied, take_denied}
 use Rattle.std.specs.Option.{option_or}
 
@@ -47,11 +44,6 @@ table_passed n used rest e = served (bad_table n used) e
     served true e = cc
     served false e = refl
 
--- with a number and a table that pass, it is for the side's record to say
-pub begin_follows : (l : Ledger) (n : ℕ) (side : Side) (number : ℕ) (day : Day) (opening : Amount) → is_number number ≡ true → table_denied n l.used ≡ None
-    → begin_denied l n side number day opening ≡ follow_denied (side_of l side) number opening.minor day.number
-begin_follows l n side number day opening e t = cond-false _ _ _ (ap not e) ∙ table_passed n l.used _ t
-
 -- a record that refuses what follows refuses the whole
 pub follows_stopped : (l : Ledger) (n : ℕ) (side : Side) (number : ℕ) (reached : ℤ) (day count : ℕ) (why : Refusal) → table_denied n l.used ≡ None → follow_denied (side_of l side) number reached day ≡ Some why
     → room_denied l n side number reached day count ≡ Some why
@@ -59,5 +51,6 @@ follows_stopped l n side number reached day count why t f =
     table_passed n l.used _ t ∙ ap (λ (o : Option Refusal). option_or o (refused_if (nat_lt n (l.used + count)) NoRoom None)) f
 
 -- the side and the head of a source say all that decides
-pub head_denied : (l : Ledger) (n : ℕ) (a b : Side) (s : Statement) (h : Head) → a ≡ b → HeadOf s h → room_denied l n a h.number h.reached h.closing_day.number h.count ≡ take_denied l n b s
-head_denied l n a b s h p e = λ i. room_denied l n (p i) (e.number i) (e.reached i) (e.closing_day i).number (e.count i)
+pub head_denied : (l : Ledger) (n : ℕ) (g : Heading) (a b : Side) (s : Statement) (h : Head) → g ≡ heading_of a h → a ≡ b → HeadOf s h → room_denied l n g.side g.number g.opening g.closing_day.number h.count ≡ take_denied l n b s
+head_denied l n g a b s h m p e =
+    (λ i. room_denied l n (m i).side (m i).number (m i).opening (m i).closing_day.number h.count) ∙ (λ i. room_denied l n (p i) (e.number i) (e.reached i) (e.closing_day i).number (e.count i))

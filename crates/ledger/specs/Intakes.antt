@@ -1,5 +1,5 @@
 -- An open intake: begun, entered into, and posted or withdrawn.
-use Rattle.std.specs.Prelude.{ℕ, ◌+◌, ◌-◌, Bool, not, ◌||◌, List, ◌++◌, take, drop, replicate, ◌+ℤ◌, None, Option, nat_le, nat_lt, slice_set}
+use Rattle.std.specs.Prelude.{ℕ, ◌+◌, ◌-◌, Bool, not, ◌||◌, List, ◌++◌, take, drop, replicate, ℤ, ◌+ℤ◌, None, Option, nat_le, nat_lt, slice_set}
 use Rattle.std.specs.Int.{saturate_to_bits}
 use Rattle.domain.specs.declared.amount.Amount.{Amount}
 use Rattle.domain.specs.declared.day.Day.{Day}
@@ -17,16 +17,16 @@ use Rattle.ledger.specs.declared.intake.Intake.{Intake}
 use Rattle.ledger.specs.Denials.{refused_if, bad_table}
 use Rattle.ledger.specs.Records.{side_of, follow_denied, settled}
 
-abbrev pub begin_denied : Ledger → ℕ → Side → ℕ → Day → Amount → Option Refusal
+abbrev pub begin_denied : Ledger → ℕ → Side → ℕ → Day → ℤ → Option Refusal
 begin_denied l n side number day opening =
     refused_if (not (is_number number)) BadNumber
     (refused_if (bad_table n l.used) BadTable
-    (follow_denied (side_of l side) number opening.minor day.number))
+    (follow_denied (side_of l side) number opening day.number))
 
 -- the balance reached is the opening, and no position is filled yet
-abbrev pub begun : Ledger → Side → ℕ → Day → Amount → Intake
+abbrev pub begun : Ledger → Side → ℕ → Day → ℤ → Intake
 begun l side number day opening =
-    record { ledger = l; heading = record { side = side; number = number; closing_day = day }; reached = opening.minor; filled = l.used }
+    record { ledger = l; heading = record { side = side; number = number; closing_day = day; opening = opening }; reached = opening; filled = l.used }
 
 -- the table lacks positions that the intake filled, or (as no begin makes it) the intake has fewer than its ledger uses
 abbrev pub bad_intake : ℕ → Intake → Bool

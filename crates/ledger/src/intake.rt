@@ -26,25 +26,24 @@ pub struct Intake {
 }
 
 impl Ledger {
-    fn check_begin(&self, n: usize, heading: &Heading, opening: Amount) -> Result<(), Refusal>
-        ensures { result ≡ answered (begin_denied self.now n heading.now.side heading.now.number heading.now.closing_day opening) tt }
+    fn check_begin(&self, n: usize, heading: &Heading) -> Result<(), Refusal>
+        ensures { result ≡ answered (begin_denied self.now n heading.now.side heading.now.number heading.now.closing_day heading.now.opening) tt }
     {
         if !is_number(heading.number) {
             return Err(Refusal::BadNumber);
         }
         self.check_table(n)?;
-        self.record_of(heading.side)
-            .check_follows(heading, opening.minor())
+        self.record_of(heading.side).check_follows(heading)
     }
 
-    fn start(self, heading: Heading, opening: Amount) -> Intake
-        ensures { result ≡ begun self heading.side heading.number heading.closing_day opening }
+    fn start(self, heading: Heading) -> Intake
+        ensures { result ≡ begun self heading.side heading.number heading.closing_day heading.opening }
     {
         Intake {
             filled: self.used,
             ledger: self,
             heading,
-            reached: opening.minor(),
+            reached: heading.opening,
         }
     }
 
@@ -58,17 +57,18 @@ impl Ledger {
         closing_day: Day,
         opening: Amount,
     ) -> Result<Intake, Denied<Ledger>>
-        ensures { result ≡ handed (begin_denied self (length table.now) side number closing_day opening) (begun self side number closing_day opening) self }
+        ensures { result ≡ handed (begin_denied self (length table.now) side number closing_day opening.minor) (begun self side number closing_day opening.minor) self }
     {
         let heading = Heading {
             side,
             number,
             closing_day,
+            opening: opening.minor(),
         };
-        if let Err(why) = self.check_begin(table.len(), &heading, opening) {
+        if let Err(why) = self.check_begin(table.len(), &heading) {
             return Err(Denied { given: self, why });
         }
-        Ok(self.start(heading, opening))
+        Ok(self.start(heading))
     }
 }
 

@@ -10,13 +10,13 @@ use domain::refusal::Refusal;
 
 impl SideRecord {
     // Refuses a statement that does not follow the side's last one.
-    pub(crate) fn check_follows(self, heading: &Heading, opening: i64) -> Result<(), Refusal>
-        ensures { result ≡ answered (follow_denied self heading.now.number opening heading.now.closing_day.number) tt }
+    pub(crate) fn check_follows(self, heading: &Heading) -> Result<(), Refusal>
+        ensures { result ≡ answered (follow_denied self heading.now.number heading.now.opening heading.now.closing_day.number) tt }
     {
         if heading.number == self.number {
             return Err(Refusal::NumberRepeated);
         }
-        if opening != self.closing.minor() {
+        if heading.opening != self.closing.minor() {
             return Err(Refusal::WrongOpening);
         }
         if heading.closing_day < self.last_day {
@@ -30,10 +30,10 @@ impl SideRecord {
         ensures { result ≡ posted self heading.number heading.closing_day closing }
     {
         SideRecord {
-            opening: self.opening,
             closing,
             number: heading.number,
             last_day: heading.closing_day,
+            ..self
         }
     }
 }

@@ -1,15 +1,33 @@
 ghost use Rattle.std.specs.Prelude.{◌≡◌};
+ghost use Rattle.ledger.specs.Headings.{heading_of};
 
 use domain::amount::Amount;
 use domain::day::Day;
 use domain::entry::Side;
+use source::Head;
 
-// What a statement is taken in by: its side, its number and its closing day.
+// What a statement is taken in by: its side, its number, its closing day and its opening, in minor units.
+// A source's opening is the balance it has reached, which need be no amount; then it is no side's closing.
 #[derive(Clone, Copy)]
 pub(crate) struct Heading {
     pub(crate) side: Side,
     pub(crate) number: u32,
     pub(crate) closing_day: Day,
+    pub(crate) opening: i64,
+}
+
+impl Heading {
+    // What remains of a source's statement.
+    pub(crate) fn of_head(side: Side, head: &Head) -> Heading
+        ensures { result ≡ heading_of side head.now }
+    {
+        Heading {
+            side,
+            number: head.number,
+            closing_day: head.closing_day,
+            opening: head.reached,
+        }
+    }
 }
 
 // What the ledger keeps of one side.

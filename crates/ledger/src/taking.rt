@@ -9,7 +9,7 @@ use crate::ledger::Ledger;
 use crate::record::Heading;
 use domain::entry::Item;
 use domain::refusal::Refusal;
-use source::{Head, Source};
+use source::Source;
 
 // Lays all that remains in a source over as many positions, as outstanding items.
 fn lay<S: Source>(source: &mut S, positions: &mut [Item])
@@ -29,14 +29,13 @@ fn lay<S: Source>(source: &mut S, positions: &mut [Item])
 }
 
 impl Ledger {
-    fn check_take(&self, n: usize, heading: &Heading, head: &Head) -> Result<(), Refusal>
-        ensures why { result ≡ answered (room_denied self.now n heading.now.side heading.now.number head.now.reached heading.now.closing_day.number head.now.count) tt }
-        ensures room { OnOk result (self.now.used + head.now.count ≤ n) }
+    fn check_take(&self, n: usize, heading: &Heading, count: usize) -> Result<(), Refusal>
+        ensures why { result ≡ answered (room_denied self.now n heading.now.side heading.now.number heading.now.opening heading.now.closing_day.number count) tt }
+        ensures room { OnOk result (self.now.used + count ≤ n) }
     {
         self.check_table(n)?;
-        self.record_of(heading.side)
-            .check_follows(heading, head.reached)?;
-        if n - self.used < head.count {
+        self.record_of(heading.side).check_follows(heading)?;
+        if n - self.used < count {
             return Err(Refusal::NoRoom);
         }
         Ok(())
@@ -58,12 +57,8 @@ impl Ledger {
         ensures same { (why : Reason) → take_denied self (length table.old) S.Source.belongs (S.Source.meaning source.old) ≡ Some why → source.new ≡ source.old }
     {
         let head = source.head();
-        let heading = Heading {
-            side: S::which(),
-            number: head.number,
-            closing_day: head.closing_day,
-        };
-        if let Err(why) = self.check_take(table.len(), &heading, &head) {
+        let heading = Heading::of_head(S::which(), &head);
+        if let Err(why) = self.check_take(table.len(), &heading, head.count) {
             return Err(Denied { given: self, why });
         }
         let used = self.used + head.count;
