@@ -1,6 +1,6 @@
 ghost use Rattle.std.specs.Prelude.{◌≡◌, length, replicate};
 ghost use Rattle.domain.specs.Blanks.{blank};
-ghost use Rattle.ledger.specs.Records.{new_record, opened, if_ok};
+ghost use Rattle.ledger.specs.Records.{opened, if_ok};
 
 use crate::ledger::Ledger;
 use crate::record::SideRecord;
@@ -12,20 +12,6 @@ use domain::digits::Digits;
 use domain::entry::Item;
 use domain::refusal::Refusal;
 use matching::clearing::clear;
-
-impl SideRecord {
-    // A side before its first statement.
-    pub(crate) fn new(opening: Amount, first_day: Day) -> SideRecord
-        ensures { result ≡ new_record opening first_day }
-    {
-        SideRecord {
-            opening,
-            closing: opening,
-            number: 0,
-            last_day: first_day,
-        }
-    }
-}
 
 impl Ledger {
     // A ledger with nothing posted, and every position of the table blank.

@@ -1,5 +1,6 @@
 ghost use Rattle.std.specs.Prelude.{◌≡◌};
 ghost use Rattle.ledger.specs.Headings.{heading_of};
+ghost use Rattle.ledger.specs.Records.{new_record};
 
 use domain::amount::Amount;
 use domain::day::Day;
@@ -44,6 +45,18 @@ pub struct SideRecord {
 }
 
 impl SideRecord {
+    // A side before its first statement.
+    pub(crate) fn new(opening: Amount, first_day: Day) -> SideRecord
+        ensures { result ≡ new_record opening first_day }
+    {
+        SideRecord {
+            opening,
+            closing: opening,
+            number: 0,
+            last_day: first_day,
+        }
+    }
+
     pub fn opening(self) -> Amount
         ensures { result ≡ self.opening }
     {

@@ -5,6 +5,7 @@ use Rattle.std.proofs.Math.ListN.{get_or-eq_default}
 use Rattle.std.proofs.lemmas.List.{length-set, get_or-set_same}
 use Rattle.std.proofs.lemmas.List.Sums.{fails_before_first}
 use Rattle.std.proofs.lemmas.Bool.{and_parts, and_from, cond-true, cases_lt, true≢false, eqb-true, lt-ltb, le-leb}
+use Rattle.domain.specs.declared.limits.TheConstants.{MOST_ITEMS}
 use Rattle.domain.specs.declared.entry.Side.{Side}
 use Rattle.domain.specs.declared.entry.Side.TheVariants.{Bank, Book}
 use Rattle.domain.specs.declared.entry.Entry.{Entry}
@@ -119,7 +120,7 @@ pairing permits =
       );
     }
 
-pub none_to_pair : (permits : Entry → Entry → Bool) (xs ys : List Item) → ys ≡ if_few xs (matched permits xs) xs → length xs ≤ 8192 → NoneToPair permits ys
+pub none_to_pair : (permits : Entry → Entry → Bool) (xs ys : List Item) → ys ≡ if_few xs (matched permits xs) xs → length xs ≤ MOST_ITEMS → NoneToPair permits ys
 none_to_pair permits xs ys e few =
     subst (NoneToPair permits) (sym (e ∙ cond-true _ _ _ (le-leb _ _ few))) (λ i j li oi oj p.
     none_fits (partner_of permits) (Pairing permits) (pairing permits) (length xs) xs (omega arith) i j (omega (arith, length_paired (partner_of permits) (length xs) xs)) (oi, and_from _ _ oj p))
@@ -141,7 +142,7 @@ undoing =
       );
     }
 
-pub none_to_fold : (xs ys : List Item) → ys ≡ if_few xs (folded xs) xs → length xs ≤ 8192 → NoneToFold ys
+pub none_to_fold : (xs ys : List Item) → ys ≡ if_few xs (folded xs) xs → length xs ≤ MOST_ITEMS → NoneToFold ys
 none_to_fold xs ys e few =
     subst NoneToFold (sym (e ∙ cond-true _ _ _ (le-leb _ _ few))) (λ i j li lj r u.
     none_fits original_of Undoing undoing (length xs) xs (omega arith) i j (omega (arith, length_paired original_of (length xs) xs)) (lj, r, u))
