@@ -28,9 +28,13 @@ report_rows l xs =
 abbrev pub together : List (List ℕ) → List ℕ
 together rows = flat_map (λ r. r) rows
 
--- the report on the items in use
+-- the report on a ledger and the items in use
+abbrev pub report_on : Ledger → List Item → List ℕ
+report_on l xs = together (report_rows l xs)
+
+-- the report on a ledger and its table
 abbrev pub report_of : Ledger → List Item → List ℕ
-report_of l t = together (report_rows l (take l.used t))
+report_of l t = report_on l (take l.used t)
 
 abbrev pub report_denied : Ledger → List Item → ℕ → Option Refusal
 report_denied l t room =

@@ -9,11 +9,12 @@ ghost use Rattle.report.specs.Reports.{report_denied, report_of};
 use domain::entry::Item;
 use domain::refusal::Refusal;
 use ledger::ledger::Ledger;
-use lines::Report;
+use subject::Report;
 
 mod line;
 mod lines;
 mod rows;
+mod subject;
 mod tally;
 
 // The report at the front of the output, which stays as it was behind it; answers its length.

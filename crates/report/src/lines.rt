@@ -3,13 +3,14 @@ ghost use Rattle.std.specs.Prelude.{◌≡◌, ◌+◌, ◌≤◌, length};
 ghost use Rattle.std.specs.Iterator.{item_count, YieldsFirstBy};
 ghost use Rattle.std.specs.Iterator.Adapters.{enumerate_count, enumerate_source};
 ghost use Rattle.std.specs.Slice.Iter.{iter_rest};
+ghost use Rattle.domain.specs.declared.limits.TheConstants.{MOST_ITEMS};
 ghost use Rattle.report.specs.Outputs.{put, text_of};
-ghost use Rattle.report.specs.Reports.{open_row, report_rows, together};
+ghost use Rattle.report.specs.Reports.{open_row, report_on, report_rows};
 
 use crate::line::Line;
-use crate::rows::{currency_row, difference_row, item_row, side_row, total_row};
+use crate::rows::{currency_row, difference_row, item_row, side_row};
+use crate::subject::Report;
 use domain::entry::{Item, Side};
-use ledger::ledger::Ledger;
 use std::iter::Enumerate;
 use std::{array, slice};
 
@@ -17,7 +18,7 @@ use std::{array, slice};
 fn open_row(number: usize, item: &Item) -> Line
     ensures { text_of result ≡ open_row number item.now }
 {
-    if item.group != 0 {
+    if !item.is_outstanding() {
         return Line::default();
     }
     item_row(number, item)
@@ -29,7 +30,7 @@ pub(crate) struct Rows<'a> {
     above: array::IntoIter<Line, 4>,
     items: Enumerate<slice::Iter<'a, Item>>,
     total: Option<Line>,
-    ghost few: { enumerate_count items + length (iter_rest (enumerate_source items)) ≤ 8192 },
+    ghost few: { enumerate_count items + length (iter_rest (enumerate_source items)) ≤ MOST_ITEMS },
 }
 
 impl<'a> Iterator for Rows<'a> {
@@ -53,14 +54,6 @@ impl<'a> Iterator for Rows<'a> {
     }
 }
 
-// A ledger and the items in use, which a report is made of.
-#[derive(Clone, Copy)]
-pub(crate) struct Report<'a> {
-    pub(crate) ledger: &'a Ledger,
-    pub(crate) items: &'a [Item],
-    ghost few: { length items.now ≤ 8192 },
-}
-
 impl<'a> Report<'a> {
     ghost use Rattle.report.specs.Lines.{rows_left};
 
@@ -78,14 +71,14 @@ impl<'a> Report<'a> {
         Rows {
             above: above.into_iter(),
             items: self.items.iter().enumerate(),
-            total: Some(total_row(self.items)),
+            total: Some(self.total_row()),
         }
     }
 
     // How long the report is.
     #[tactic(auto, using(crate::proofs::Counting::rows_count))]
     pub(crate) fn length(&self) -> usize
-        ensures { result ≡ length (together (report_rows self.now.ledger.now self.now.items.now)) }
+        ensures { result ≡ length (report_on self.now.ledger.now self.now.items.now) }
     {
         let mut length = 0;
         for line in self.rows() {
@@ -96,9 +89,9 @@ impl<'a> Report<'a> {
 
     // Writes the report: each line into what remains of the output behind the lines before.
     pub(crate) fn put(&self, out: &mut [u8]) -> usize
-        requires { length (together (report_rows self.now.ledger.now self.now.items.now)) ≤ length out.old }
-        ensures is { out.new ≡ put (together (report_rows self.now.ledger.now self.now.items.now)) out.old }
-        ensures len { result ≡ length (together (report_rows self.now.ledger.now self.now.items.now)) }
+        requires { length (report_on self.now.ledger.now self.now.items.now) ≤ length out.old }
+        ensures is { out.new ≡ put (report_on self.now.ledger.now self.now.items.now) out.old }
+        ensures len { result ≡ length (report_on self.now.ledger.now self.now.items.now) }
     {
         let mut at = 0;
         for line in self.rows() {

@@ -1,11 +1,11 @@
 // The lines of a report.
-ghost use Rattle.std.specs.Prelude.{◌≡◌, ◌≤◌, length};
+ghost use Rattle.std.specs.Prelude.{◌≡◌};
 ghost use Rattle.report.specs.Outputs.{text_of};
 ghost use Rattle.report.specs.Rows.{currency_row, difference_row, item_row, side_row, side_tag};
 ghost use Rattle.report.specs.Tallies.{total_row};
 
 use crate::line::{Line, until_zero};
-use crate::tally::{open_count, open_sum};
+use crate::subject::Report;
 use domain::amount::Amount;
 use domain::currency::Currency;
 use domain::digits::Digits;
@@ -80,22 +80,23 @@ pub(crate) fn item_row(number: usize, item: &Item) -> Line
     )
 }
 
-// T: open items and their sum, bank then book.
-pub(crate) fn total_row(items: &[Item]) -> Line
-    requires { length items.now ≤ 8192 }
-    ensures { text_of result ≡ total_row items.now }
-{
-    let mut bank_count = Buffer::new();
-    let mut bank_sum = Buffer::new();
-    let mut book_count = Buffer::new();
-    let mut book_sum = Buffer::new();
-    Line::row(
-        b'T',
-        &[
-            bank_count.format(open_count(items, Side::Bank)).as_bytes(),
-            bank_sum.format(open_sum(items, Side::Bank)).as_bytes(),
-            book_count.format(open_count(items, Side::Book)).as_bytes(),
-            book_sum.format(open_sum(items, Side::Book)).as_bytes(),
-        ],
-    )
+impl<'a> Report<'a> {
+    // T: open items and their sum, bank then book.
+    pub(crate) fn total_row(&self) -> Line
+        ensures { text_of result ≡ total_row self.now.items.now }
+    {
+        let mut bank_count = Buffer::new();
+        let mut bank_sum = Buffer::new();
+        let mut book_count = Buffer::new();
+        let mut book_sum = Buffer::new();
+        Line::row(
+            b'T',
+            &[
+                bank_count.format(self.open_count(Side::Bank)).as_bytes(),
+                bank_sum.format(self.open_sum(Side::Bank)).as_bytes(),
+                book_count.format(self.open_count(Side::Book)).as_bytes(),
+                book_sum.format(self.open_sum(Side::Book)).as_bytes(),
+            ],
+        )
+    }
 }

@@ -1,24 +1,28 @@
 // The outstanding items of a side, counted and added.
-ghost use Rattle.std.specs.Prelude.{◌≡◌, ◌≤◌, length};
+ghost use Rattle.std.specs.Prelude.{◌≡◌};
 ghost use Rattle.report.specs.Tallies.{open_count, open_sum};
 
-use domain::entry::{Item, Side};
+use crate::subject::Report;
+use domain::entry::Side;
 
-pub(crate) fn open_count(items: &[Item], side: Side) -> usize
-    ensures { result ≡ open_count side items.now }
-{
-    items.iter().filter(|item| item.is_open_on(side)).count()
-}
-
-pub(crate) fn open_sum(items: &[Item], side: Side) -> i64
-    requires { length items.now ≤ 8192 }
-    ensures { result ≡ open_sum side items.now }
-{
-    let mut sum = 0;
-    for item in items {
-        if item.is_open_on(side) {
-            sum += item.entry.amount.minor();
-        }
+impl<'a> Report<'a> {
+    pub(crate) fn open_count(&self, side: Side) -> usize
+        ensures { result ≡ open_count side self.now.items.now }
+    {
+        let open = self.items.iter().filter(|item| item.is_open_on(side));
+        open.count()
     }
-    sum
+
+    // No `map(..).sum()`: the amounts are signed, and that what is added so far fits is known of the loop's turns alone.
+    pub(crate) fn open_sum(&self, side: Side) -> i64
+        ensures { result ≡ open_sum side self.now.items.now }
+    {
+        let mut sum = 0;
+        for item in self.items {
+            if item.is_open_on(side) {
+                sum += item.entry.amount.minor();
+            }
+        }
+        sum
+    }
 }

@@ -1,7 +1,7 @@
 use Rattle.std.proofs.Common.{ap}
 use Rattle.report.specs.Reports.{together}
 use Rattle.report.proofs.Behind.{written_more}
-use Rattle.report.proofs.lines.Report.put.Goals as goal
+use Rattle.report.proofs.subject.Report.put.Goals as goal
 
 pub loop-line-preserved : goal.loop-line-preserved
 loop-line-preserved c =

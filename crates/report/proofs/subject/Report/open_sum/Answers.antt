@@ -1,13 +1,13 @@
 use Rattle.std.proofs.Common.{sym, ◌∙◌, arith}
 use Rattle.std.proofs.lemmas.Int.{ints}
 use Rattle.report.proofs.Tallying.{sum_open, sum_closed}
-use Rattle.report.proofs.tally.open_sum.Goals.{then-is_open_on, else-is_open_on}
-use Rattle.report.proofs.tally.open_sum.Goals as goal
+use Rattle.report.proofs.subject.Report.open_sum.Goals.{then-is_open_on, else-is_open_on}
+use Rattle.report.proofs.subject.Report.open_sum.Goals as goal
 
 pub loop-item-preserved : goal.loop-item-preserved
 loop-item-preserved c =
     let s = c.args.side in
-    let xs = c.args.items.now in
+    let xs = c.args.self.now.items.now in
     let i = c.loop-item.item-index in
     let x = c.item-item.result in
     let w = x.entry.amount.within in
