@@ -1,17 +1,14 @@
 -- The ledger and the records of its two sides.
 use Rattle.std.specs.Prelude.{ℕ, not, List, ℤ, None, Ok, Err, Option, Result, ◌==◌, nat_lt}
-use Rattle.std.specs.Option.{ok_or}
+use Rattle.domain.specs.declared.account.Account.{Account}
 use Rattle.domain.specs.declared.amount.Amount.{Amount}
-use Rattle.domain.specs.declared.currency.Currency.{Currency}
 use Rattle.domain.specs.declared.day.Day.{Day}
-use Rattle.domain.specs.declared.digits.Digits.{Digits}
 use Rattle.domain.specs.declared.entry.Side.{Side}
 use Rattle.domain.specs.declared.entry.Side.TheVariants.{Bank, Book}
 use Rattle.domain.specs.declared.refusal.Refusal.{Refusal}
-use Rattle.domain.specs.declared.refusal.Refusal.TheVariants.{BadAmount, BadCurrency, NumberRepeated, WrongOpening, DayBefore}
-use Rattle.domain.specs.Accounts.{as_digits}
+use Rattle.domain.specs.declared.refusal.Refusal.TheVariants.{NumberRepeated, WrongOpening, DayBefore}
+use Rattle.domain.specs.Accounts.{account_of, and_then}
 use Rattle.domain.specs.Entries.{same_int}
-use Rattle.domain.specs.Makers.{as_currency}
 use Rattle.ledger.specs.declared.record.SideRecord.{SideRecord}
 use Rattle.ledger.specs.declared.ledger.Ledger.{Ledger}
 use Rattle.ledger.specs.Denials.{refused_if, table_denied, answered}
@@ -20,20 +17,13 @@ use Rattle.ledger.specs.Denials.{refused_if, table_denied, answered}
 abbrev pub new_record : Amount → Day → SideRecord
 new_record opening first = record { opening = opening; closing = opening; number = 0; last_day = first }
 
-abbrev pub new_ledger : Currency → Digits → Day → Amount → Amount → Ledger
-new_ledger c d first bank book = record { currency = c; digits = d; first_day = first; used = 0; bank = new_record bank first; book = new_record book first }
-
--- what follows a value, or its refusal
-abbrev pub and_then : {X Y : Type 0} → Result X Refusal → (X → Result Y Refusal) → Result Y Refusal
-and_then (Ok x) next = next x
-and_then (Err why) next = Err why
+abbrev pub new_ledger : Account → Day → Amount → Amount → Ledger
+new_ledger account first bank book = record { account = account; first_day = first; used = 0; bank = new_record bank first; book = new_record book first }
 
 -- opening: digits that are none, a currency that is none, and a bad table are refused, in this order
 abbrev pub opened : List ℕ → ℕ → Day → Amount → Amount → ℕ → Result Ledger Refusal
 opened code digits first bank book n =
-    and_then (ok_or (as_digits digits) BadAmount) (λ d.
-    and_then (ok_or (as_currency code) BadCurrency) (λ c.
-    answered (table_denied n 0) (new_ledger c d first bank book)))
+    and_then (account_of code digits) (λ account. answered (table_denied n 0) (new_ledger account first bank book))
 
 -- what a call leaves by its answer: the new, or where it refused the old
 abbrev pub if_ok : {X Y : Type 0} → Result X Refusal → Y → Y → Y
@@ -58,6 +48,6 @@ posted r number day closing = record { opening = r.opening; closing = closing; n
 -- a ledger after a statement of a side: the other side stays
 abbrev pub settled : Ledger → Side → ℕ → Day → Amount → ℕ → Ledger
 settled l Bank number day closing used =
-    record { currency = l.currency; digits = l.digits; first_day = l.first_day; used = used; bank = posted l.bank number day closing; book = l.book }
+    record { account = l.account; first_day = l.first_day; used = used; bank = posted l.bank number day closing; book = l.book }
 settled l Book number day closing used =
-    record { currency = l.currency; digits = l.digits; first_day = l.first_day; used = used; bank = l.bank; book = posted l.book number day closing }
+    record { account = l.account; first_day = l.first_day; used = used; bank = l.bank; book = posted l.book number day closing }

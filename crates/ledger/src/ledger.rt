@@ -1,6 +1,7 @@
 ghost use Rattle.std.specs.Prelude.{◌≡◌};
 
 use crate::record::SideRecord;
+use domain::account::Account;
 use domain::currency::Currency;
 use domain::day::Day;
 use domain::digits::Digits;
@@ -8,8 +9,7 @@ use domain::digits::Digits;
 // A ledger with no open intake.
 #[derive(Drop)]
 pub struct Ledger {
-    pub(crate) currency: Currency,
-    pub(crate) digits: Digits,
+    pub(crate) account: Account,
     pub(crate) first_day: Day,
     // How many positions of the table are in use, from the front.
     pub(crate) used: usize,
@@ -18,16 +18,22 @@ pub struct Ledger {
 }
 
 impl Ledger {
-    pub fn currency(&self) -> Currency
-        ensures { result ≡ self.now.currency }
+    pub fn account(&self) -> Account
+        ensures { result ≡ self.now.account }
     {
-        self.currency
+        self.account
+    }
+
+    pub fn currency(&self) -> Currency
+        ensures { result ≡ self.now.account.currency }
+    {
+        self.account.currency
     }
 
     pub fn digits(&self) -> Digits
-        ensures { result ≡ self.now.digits }
+        ensures { result ≡ self.now.account.digits }
     {
-        self.digits
+        self.account.digits
     }
 
     pub fn first_day(&self) -> Day

@@ -5,10 +5,9 @@ ghost use Rattle.ledger.specs.Records.{opened, if_ok};
 use crate::ledger::Ledger;
 use crate::record::SideRecord;
 use crate::table::check_table;
+use domain::account::Account;
 use domain::amount::Amount;
-use domain::currency::Currency;
 use domain::day::Day;
-use domain::digits::Digits;
 use domain::entry::Item;
 use domain::refusal::Refusal;
 use matching::clearing::clear;
@@ -26,13 +25,11 @@ impl Ledger {
         ensures answer { result ≡ opened currency.now digits first_day bank book (length table.old) }
         ensures table { table.new ≡ if_ok result (replicate (length table.old) blank) table.old }
     {
-        let digits = Digits::try_from(digits)?;
-        let currency = Currency::try_from(currency)?;
+        let account = Account::new(currency, digits)?;
         check_table(table.len(), 0)?;
         clear(table);
         Ok(Ledger {
-            currency,
-            digits,
+            account,
             first_day,
             used: 0,
             bank: SideRecord::new(bank, first_day),

@@ -93,7 +93,7 @@ fn undoes(reversal: &Item, x: &Item) -> bool
         && x.entry.kind == Kind::Ordinary
         && !key.is_blank()
         && key == x.entry.key
-        && reversal.entry.amount.minor() == -x.entry.amount.minor()
+        && reversal.entry.amount == -x.entry.amount
 }
 
 // The highest position of an item that the reversal undoes.

@@ -6,6 +6,7 @@ use Rattle.domain.specs.declared.entry.Item.{Item}
 use Rattle.domain.specs.declared.entry.Side.{Side}
 use Rattle.domain.specs.declared.refusal.Refusal.{Refusal}
 use Rattle.domain.specs.declared.refusal.Refusal.TheVariants.{BadAmount}
+use Rattle.domain.specs.Accounts.{and_then}
 use Rattle.domain.specs.Blanks.{blank}
 use Rattle.domain.specs.Makers.{as_amount}
 use Rattle.source.specs.Statement.{Statement}
@@ -15,7 +16,7 @@ use Rattle.matching.specs.Rules.{by_reference}
 use Rattle.ledger.specs.declared.ledger.Ledger.{Ledger}
 use Rattle.ledger.specs.Denials.{answered, table_denied}
 use Rattle.ledger.specs.Groupings.{on_live}
-use Rattle.ledger.specs.Records.{and_then, opened}
+use Rattle.ledger.specs.Records.{opened}
 use Rattle.ledger.specs.Takings.{take_denied, taken_ledger, laid}
 use Rattle.report.specs.Outputs.{put}
 use Rattle.report.specs.Reports.{report_denied, report_of}

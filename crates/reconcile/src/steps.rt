@@ -47,7 +47,7 @@ fn fold(ledger: Ledger, table: &mut [Item]) -> Result<Ledger, Refusal>
 fn match_references(ledger: Ledger, table: &mut [Item]) -> Result<Ledger, Refusal>
     ensures { paired result table.new ≡ matched_by (record { ledger = ledger; table = table.old }) }
 {
-    ledger.match_items(table, &ByReference {})?;
+    ledger.match_items(table, &ByReference)?;
     Ok(ledger)
 }
 

@@ -21,7 +21,7 @@ open_rows n (x ∷ xs) = open_row n x ∷ open_rows (n + 1) xs
 -- all lines, in order
 unfoldable pub report_rows : Ledger → List Item → List (List ℕ)
 report_rows l xs =
-    currency_row l.currency l.digits ∷ side_row 66 l.bank ∷ side_row 72 l.book ∷ difference_row l.bank.opening l.book.opening
+    currency_row l.account ∷ side_row 66 l.bank ∷ side_row 72 l.book ∷ difference_row l.bank.opening l.book.opening
     ∷ (open_rows 1 xs ++ total_row xs ∷ [])
 
 -- lines one behind the other

@@ -1,9 +1,8 @@
 -- The lines of a report: fields parted by commas, ended by LF.
 use Rattle.std.specs.Prelude.{ℕ, List, [], ◌∷◌, ◌++◌, ◌-ℤ◌, codes, decimal}
 use Rattle.std.specs.Fmt.{signed_decimal}
+use Rattle.domain.specs.declared.account.Account.{Account}
 use Rattle.domain.specs.declared.amount.Amount.{Amount}
-use Rattle.domain.specs.declared.currency.Currency.{Currency}
-use Rattle.domain.specs.declared.digits.Digits.{Digits}
 use Rattle.domain.specs.Accounts.{digit_count}
 use Rattle.domain.specs.declared.entry.Item.{Item}
 use Rattle.domain.specs.declared.entry.Side.{Side}
@@ -18,8 +17,8 @@ row f [] = f ++ 10 ∷ []
 row f (g ∷ gs) = f ++ 44 ∷ row g gs
 
 -- R: currency and digits
-abbrev pub currency_row : Currency → Digits → List ℕ
-currency_row c d = row (codes "R") (c.code ∷ decimal (digit_count d) ∷ [])
+abbrev pub currency_row : Account → List ℕ
+currency_row account = row (codes "R") (account.currency.code ∷ decimal (digit_count account.digits) ∷ [])
 
 -- D: first bank opening less first book opening
 abbrev pub difference_row : Amount → Amount → List ℕ

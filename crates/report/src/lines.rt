@@ -63,7 +63,7 @@ impl<'a> Report<'a> {
     {
         let ledger = self.ledger;
         let above = [
-            currency_row(ledger.currency(), ledger.digits()),
+            currency_row(ledger.account()),
             side_row(Side::Bank, ledger.bank()),
             side_row(Side::Book, ledger.book()),
             difference_row(ledger.bank().opening(), ledger.book().opening()),

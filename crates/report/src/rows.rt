@@ -6,21 +6,23 @@ ghost use Rattle.report.specs.Tallies.{total_row};
 
 use crate::line::{Line, until_zero};
 use crate::subject::Report;
+use domain::account::Account;
 use domain::amount::Amount;
-use domain::currency::Currency;
-use domain::digits::Digits;
 use domain::entry::{Item, Side};
 use itoa::Buffer;
 use ledger::record::SideRecord;
 
 // R: currency and digits.
-pub(crate) fn currency_row(currency: Currency, digits: Digits) -> Line
-    ensures { text_of result ≡ currency_row currency digits }
+pub(crate) fn currency_row(account: Account) -> Line
+    ensures { text_of result ≡ currency_row account }
 {
     let mut count = Buffer::new();
     Line::row(
         b'R',
-        &[&currency.code(), count.format(digits.count()).as_bytes()],
+        &[
+            &account.currency.code(),
+            count.format(account.digits.count()).as_bytes(),
+        ],
     )
 }
 
