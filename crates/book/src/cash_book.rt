@@ -10,7 +10,7 @@ use domain::entry::{Entry, Place, Side};
 use readers::Reader;
 use readers::format::Format;
 use readers::passage::Passage;
-use source::Head;
+use source::{Head, Sided};
 
 // A reader of cash books: `CashBook::read` reads a text, which is then a source of its entries.
 pub type CashBook<'a> = Reader<'a, BookFormat>;
@@ -19,12 +19,14 @@ pub type CashBook<'a> = Reader<'a, BookFormat>;
 #[derive(Clone, Copy)]
 pub struct BookFormat;
 
-impl Format for BookFormat {
-    type Scan = State;
-
+impl Sided for BookFormat {
     const SIDE: Side = Side::Book;
 
     ghost SIDE = { Side.Book };
+}
+
+impl Format for BookFormat {
+    type Scan = State;
 
     ghost begun = { begin_for };
 

@@ -9,17 +9,17 @@ use crate::ledger::Ledger;
 use crate::record::Heading;
 use domain::entry::Item;
 use domain::refusal::Refusal;
-use source::Source;
+use source::{Sided, Source};
 
 // Lays all that remains in a source over as many positions, as outstanding items.
 fn lay<S: Source>(source: &mut S, positions: &mut [Item])
     requires ready { S.Source.ready source.old }
     requires room { length positions.old ≡ length (S.Source.meaning source.old).remaining }
-    ensures items { positions.new ≡ map (outstanding_item S.Source.belongs) (S.Source.meaning source.old).remaining }
+    ensures items { positions.new ≡ map (outstanding_item S.Origin.SIDE) (S.Source.meaning source.old).remaining }
     ensures ready { S.Source.ready source.new }
     ensures source { S.Source.meaning source.new ≡ spent (S.Source.meaning source.old) }
 {
-    let side = S::which();
+    let side = <S::Origin as Sided>::SIDE;
     // A source is no iterator, so each position fetches its entry; as many remain as there are positions.
     for position in positions.iter_mut() {
         if let Some(entry) = source.next() {
@@ -50,14 +50,14 @@ impl Ledger {
         table: &mut [Item],
     ) -> Result<Ledger, Denied<Ledger>>
         requires { S.Source.ready source.old }
-        ensures answer { result ≡ handed (take_denied self (length table.old) S.Source.belongs (S.Source.meaning source.old)) (taken_ledger self S.Source.belongs (S.Source.meaning source.old)) self }
-        ensures table { table.new ≡ unless (take_denied self (length table.old) S.Source.belongs (S.Source.meaning source.old)) (laid S.Source.belongs table.old self.used (S.Source.meaning source.old).remaining) table.old }
+        ensures answer { result ≡ handed (take_denied self (length table.old) S.Origin.SIDE (S.Source.meaning source.old)) (taken_ledger self S.Origin.SIDE (S.Source.meaning source.old)) self }
+        ensures table { table.new ≡ unless (take_denied self (length table.old) S.Origin.SIDE (S.Source.meaning source.old)) (laid S.Origin.SIDE table.old self.used (S.Source.meaning source.old).remaining) table.old }
         ensures ready { S.Source.ready source.new }
-        ensures source { S.Source.meaning source.new ≡ unless (take_denied self (length table.old) S.Source.belongs (S.Source.meaning source.old)) (spent (S.Source.meaning source.old)) (S.Source.meaning source.old) }
-        ensures same { (why : Reason) → take_denied self (length table.old) S.Source.belongs (S.Source.meaning source.old) ≡ Some why → source.new ≡ source.old }
+        ensures source { S.Source.meaning source.new ≡ unless (take_denied self (length table.old) S.Origin.SIDE (S.Source.meaning source.old)) (spent (S.Source.meaning source.old)) (S.Source.meaning source.old) }
+        ensures same { (why : Reason) → take_denied self (length table.old) S.Origin.SIDE (S.Source.meaning source.old) ≡ Some why → source.new ≡ source.old }
     {
         let head = source.head();
-        let heading = Heading::of_head(S::which(), &head);
+        let heading = Heading::of_head(<S::Origin as Sided>::SIDE, &head);
         if let Err(why) = self.check_take(table.len(), &heading, head.count) {
             return Err(Denied { given: self, why });
         }

@@ -12,7 +12,7 @@ use readers::Reader;
 use readers::account::Account;
 use readers::format::Format;
 use readers::passage::Passage;
-use source::Head;
+use source::{Head, Sided};
 
 // A reader of MT940: `Mt940::read` reads a text, which is then a source of its entries.
 pub type Mt940<'a> = Reader<'a, Mt940Format>;
@@ -21,12 +21,14 @@ pub type Mt940<'a> = Reader<'a, Mt940Format>;
 #[derive(Clone, Copy)]
 pub struct Mt940Format;
 
-impl Format for Mt940Format {
-    type Scan = State;
-
+impl Sided for Mt940Format {
     const SIDE: Side = Side::Bank;
 
     ghost SIDE = { Side.Bank };
+}
+
+impl Format for Mt940Format {
+    type Scan = State;
 
     ghost begun = { begin_for };
 

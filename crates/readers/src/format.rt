@@ -1,6 +1,5 @@
 ghost use Rattle.std.specs.Prelude.{◌≡◌, ℕ, ◌∷◌, true, List, ℤ, pos, Ok, Option};
 ghost use Rattle.domain.specs.declared.entry.Entry.{Entry};
-ghost use Rattle.domain.specs.declared.entry.Side.{Side};
 ghost use Rattle.source.specs.declared.Head.{Head};
 ghost use Rattle.text.specs.Left.{lines_left, shown};
 ghost use Rattle.text.specs.Lines.{content_of};
@@ -9,19 +8,14 @@ ghost use Rattle.readers.specs.Tallies.{Closes, count_with, sum_with};
 
 use crate::passage::Passage;
 use domain::account::Account;
-use domain::entry::{Entry, Side};
-use source::Head;
+use domain::entry::Entry;
+use source::{Head, Sided};
 use text::Reading;
 
 // A format of statements: what its lines lead to, and the entries that they state.
-pub trait Format {
+pub trait Format: Sided {
     // What has been read of a text.
     type Scan: Reading + Copy;
-
-    // Whose account of the cash it carries.
-    const SIDE: Side;
-
-    ghost SIDE: { Side };
 
     // Before the first line.
     ghost begun: { Account → Self.Scan };

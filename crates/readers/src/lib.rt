@@ -11,7 +11,7 @@ pub mod format;
 pub mod passage;
 
 use domain::account::Account;
-use domain::entry::{Entry, Side};
+use domain::entry::Entry;
 use domain::refusal::{Refusal, Refused};
 use format::Format;
 use passage::{LONGEST, Passage};
@@ -69,21 +69,13 @@ impl<'a, F: Format> Reader<'a, F> {
 }
 
 impl<'a, F: Format> Source for Reader<'a, F> {
-    const SIDE: Side = F::SIDE;
-
-    ghost belongs = { F.SIDE };
+    type Origin = F;
 
     ghost meaning = { meaning_of F.stated };
 
     ghost ready = { Ready F.stated };
 
     ghost lawful = { λ r ready. ready.lawful };
-
-    fn which() -> Side
-        ensures { result ≡ F.SIDE }
-    {
-        F::SIDE
-    }
 
     #[tactic(auto, unfolding(crate::specs::Whole::meaning_of))]
     fn head(&self) -> Head {

@@ -30,7 +30,7 @@ fn open_for(bank: &Head, book: &Head, table: &mut [Item]) -> Result<Ledger, Refu
 
 fn take<S: Source>(ledger: Ledger, source: &mut S, table: &mut [Item]) -> Result<Ledger, Refusal>
     requires { S.Source.ready source.old }
-    ensures { paired result table.new ≡ taken_by S.Source.belongs (S.Source.meaning source.old) (record { ledger = ledger; table = table.old }) }
+    ensures { paired result table.new ≡ taken_by S.Origin.SIDE (S.Source.meaning source.old) (record { ledger = ledger; table = table.old }) }
 {
     Ok(ledger.take(source, table)?)
 }
@@ -73,8 +73,8 @@ pub(crate) fn run<A: Source, B: Source>(
 ) -> Result<usize, Refusal>
     requires one { A.Source.ready bank.old }
     requires two { B.Source.ready book.old }
-    ensures answer { result ≡ length_of (reconciled_of A.Source.belongs B.Source.belongs (A.Source.meaning bank.old) (B.Source.meaning book.old) (length table.old) (length out.old)) }
-    ensures output { out.new ≡ output_of (reconciled_of A.Source.belongs B.Source.belongs (A.Source.meaning bank.old) (B.Source.meaning book.old) (length table.old) (length out.old)) out.old }
+    ensures answer { result ≡ length_of (reconciled_of A.Origin.SIDE B.Origin.SIDE (A.Source.meaning bank.old) (B.Source.meaning book.old) (length table.old) (length out.old)) }
+    ensures output { out.new ≡ output_of (reconciled_of A.Origin.SIDE B.Origin.SIDE (A.Source.meaning bank.old) (B.Source.meaning book.old) (length table.old) (length out.old)) out.old }
     ensures within { IfOk result (λ n. n ≤ length out.old) }
 {
     let ledger = open_for(&bank.head(), &book.head(), table)?;

@@ -20,23 +20,25 @@ pub struct Head {
     pub count: usize,
 }
 
-// A statement that is fetched entry by entry.
-pub trait Source {
+// What has a side.
+pub trait Sided {
     const SIDE: Side;
 
-    // The side, as clauses name it.
-    ghost belongs: { Side };
+    // The same, as clauses name it.
+    ghost SIDE: { Side };
+}
+
+// A statement that is fetched entry by entry.
+pub trait Source {
+    // Where it comes from, as its format, whose constant is its side. The constant stands at a type of its own, since of a constant at a type
+    // with a lifetime, as a reader is, the check knows nothing.
+    type Origin: Sided;
 
     // What the source means now.
     ghost meaning: { Self → Statement };
 
     // What each making promises, and each call asks and keeps.
     ghost ready: { Self → Type 0 };
-
-    // The side, as generic code reads it. An impl for a type with a lifetime cannot state the constant in a clause yet: the check
-    // asks for the constant's clauses, which a constant has none of.
-    fn which() -> Side
-        ensures { result ≡ belongs };
 
     // Changes nothing, and never refuses.
     fn head(&self) -> Head

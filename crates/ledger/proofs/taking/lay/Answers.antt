@@ -20,11 +20,11 @@ loop-position-preserved g c =
           let e = w.in-Some.entry in
           let split = fetched before after e w.in-Some.ensures.first w.in-Some.ensures.moves in
           let long : length before.remaining ≡ length after.remaining + 1 = ap length split ∙ omega arith in
-          let laid = w.positions-is ∙ ap (λ (x : Item). set ys n x) (w.new.ensures ∙ ap (λ (side : Side). outstanding_item side e) c.which-side.ensures) in
+          let laid = w.positions-is ∙ ap (λ (x : Item). set ys n x) (w.new.ensures ∙ ap (λ (side : Side). outstanding_item side e) c.SIDE-side.ensures) in
           record {
             ready = w.in-Some.ensures.again;
             room = omega (arith, long);
-            whole = laid_more s.belongs ys c.match-next.positions n e before.remaining after.remaining within split laid ∙ c.loop-position.invariant.whole;
+            whole = laid_more g.S.Origin.Sided.SIDE ys c.match-next.positions n e before.remaining after.remaining within split laid ∙ c.loop-position.invariant.whole;
             same = ap spent w.in-Some.ensures.moves ∙ c.loop-position.invariant.same;
           }
       | in_default w ↦
@@ -34,4 +34,4 @@ loop-position-preserved g c =
 
 pub returns-clause-items : goal.returns-clause-items
 returns-clause-items g c =
-    sym (laid_all g.S.Source.belongs c.loop-position.positions c.loop-position.position-index _ c.loop-position.invariant.room (omega arith)) ∙ c.loop-position.invariant.whole
+    sym (laid_all g.S.Origin.Sided.SIDE c.loop-position.positions c.loop-position.position-index _ c.loop-position.invariant.room (omega arith)) ∙ c.loop-position.invariant.whole

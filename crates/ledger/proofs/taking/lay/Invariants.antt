@@ -10,6 +10,6 @@ invariant-loop-position g l =
     record {
       ready : s.ready l.source;
       room : l.position-index + length (s.meaning l.source).remaining ≡ length l.positions;
-      whole : with_rest s.belongs l.positions l.position-index (s.meaning l.source).remaining ≡ with_rest s.belongs l.initial.positions 0 (s.meaning l.initial.source).remaining;
+      whole : with_rest g.S.Origin.Sided.SIDE l.positions l.position-index (s.meaning l.source).remaining ≡ with_rest g.S.Origin.Sided.SIDE l.initial.positions 0 (s.meaning l.initial.source).remaining;
       same : spent (s.meaning l.source) ≡ spent (s.meaning l.initial.source);
     }
