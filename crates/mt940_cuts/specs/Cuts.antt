@@ -1,6 +1,5 @@
 -- How a :61: is cut: it is a value date, perhaps an entry date, a mark, perhaps a capital, an amount, a type and a reference.
 use Rattle.std.specs.Prelude.{ℕ, ◌+◌, Bool, cond, ◌&&◌, ◌||◌, List, [], ◌∷◌, take, drop, Some, None, codes, Option, nat_le, slice_index, is_some}
-use Rattle.std.specs.Option.{option_map}
 use Rattle.domain.specs.declared.key.Key.{Key}
 use Rattle.domain.specs.Currencies.{is_capital}
 use Rattle.domain.specs.Makers.{as_key}
@@ -8,11 +7,27 @@ use Rattle.fields.specs.Runs.{is_digit, run_length}
 use Rattle.mt940_cuts.specs.declared.mark.Mark.{Mark}
 use Rattle.mt940_cuts.specs.declared.cutting.Parts.{Parts}
 use Rattle.mt940_cuts.specs.Marks.{mark_of}
-use Rattle.mt940_cuts.specs.Slices.{starts_with, is_sized, is_date, digits_at}
+use Rattle.mt940_cuts.specs.Slices.{starts_with, is_sized, digits_at}
 
--- the entry date of four digits behind the value date of six, if a digit follows that; none where the dates have not their digits
-unfoldable pub dates_of : List ℕ → Option (Option (List ℕ))
-dates_of body = cond (is_date 6 (take 6 body)) (cond (is_digit (slice_index body 6)) (option_map Some (digits_at 4 (drop 6 body))) (Some None)) None
+-- a :61: as it is cut: its dates, its mark, the bytes from its amount on, and the key of its reference
+pub record Cut : Type 0 where
+  pub value_date : List ℕ
+  pub entry_date : Option (List ℕ)
+  pub mark : Mark
+  pub run : List ℕ
+  pub key : Key
+
+abbrev pub shown : Parts → Cut
+shown p = record { value_date = p.value_date; entry_date = p.entry_date; mark = p.mark; run = p.run.now; key = p.key }
+
+-- the value date of six digits, with the entry date of four behind it
+abbrev pub with_entry : List ℕ → Option (List ℕ) → Option (List ℕ × Option (List ℕ))
+with_entry value_date o = elim o [ None ↦ None | Some entry_date ↦ Some (value_date, Some entry_date) ]
+
+-- the value date of six digits, and the entry date of four behind it, if a digit follows that; none where the dates have not their digits
+unfoldable pub dates_of : List ℕ → Option (List ℕ × Option (List ℕ))
+dates_of body =
+    elim (digits_at 6 body) [ None ↦ None | Some value_date ↦ cond (is_digit (slice_index body 6)) (with_entry value_date (digits_at 4 (drop 6 body))) (Some (value_date, None)) ]
 
 -- a funds code: a capital is one if a digit or a comma follows it
 unfoldable pub has_funds : List ℕ → Bool
@@ -55,19 +70,19 @@ details_of bytes = cond (is_type bytes) (key_in (drop 4 bytes)) None
 abbrev pub mark_at : Option (List ℕ) → ℕ
 mark_at entry_date = cond (is_some entry_date) 10 6
 
--- where the amount begins whose mark begins at `at` and has n bytes
-abbrev pub run_at : List ℕ → ℕ → ℕ → ℕ
-run_at body at n = at + n + funds_of (drop (at + n) body)
+-- the bytes from the amount on, where these stand behind the mark
+abbrev pub run_in : List ℕ → List ℕ
+run_in bytes = drop (funds_of bytes) bytes
 
--- the parts of a :61: whose amount begins at `run`
-abbrev pub parts_from : List ℕ → Option (List ℕ) → Mark → ℕ → Option Parts
-parts_from body entry_date mark run =
-    elim (details_of (drop (run + run_length (drop run body)) body)) [ None ↦ None | Some k ↦ Some (record { entry_date = entry_date; mark = mark; run = run; key = k }) ]
+-- the parts of a :61: with the bytes from its amount on
+abbrev pub parts_from : List ℕ → Option (List ℕ) → Mark → List ℕ → Option Cut
+parts_from value_date entry_date mark run =
+    elim (details_of (drop (run_length run) run)) [ None ↦ None | Some k ↦ Some (record { value_date = value_date; entry_date = entry_date; mark = mark; run = run; key = k }) ]
 
--- the parts of a :61: whose mark begins at `at`
-abbrev pub parts_at : List ℕ → Option (List ℕ) → ℕ → Option Parts
-parts_at body entry_date at = elim (mark_of (drop at body)) [ None ↦ None | Some p ↦ parts_from body entry_date p.0 (run_at body at p.1) ]
+-- the parts of a :61: with the bytes from its mark on
+abbrev pub parts_at : List ℕ → Option (List ℕ) → List ℕ → Option Cut
+parts_at value_date entry_date marked = elim (mark_of marked) [ None ↦ None | Some p ↦ parts_from value_date entry_date p.0 (run_in (drop p.1 marked)) ]
 
 -- the parts of a :61:, or none where it has not its form
-unfoldable pub parts_of : List ℕ → Option Parts
-parts_of body = elim (dates_of body) [ None ↦ None | Some entry_date ↦ parts_at body entry_date (mark_at entry_date) ]
+unfoldable pub parts_of : List ℕ → Option Cut
+parts_of body = elim (dates_of body) [ None ↦ None | Some d ↦ parts_at d.0 d.1 (drop (mark_at d.1) body) ]

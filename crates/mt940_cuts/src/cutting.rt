@@ -1,6 +1,7 @@
 // How a :61: is cut into its parts.
-ghost use Rattle.std.specs.Prelude.{◌≡◌, ◌+◌, ◌<◌, ◌≤◌, length, IfSome};
-ghost use Rattle.mt940_cuts.specs.Cuts.{dates_of, has_funds, is_code as is_code_byte, is_type, slashes_from, key_of, key_in, details_of, mark_at, parts_of};
+ghost use Rattle.std.specs.Prelude.{◌≡◌, ◌+◌, ◌<◌, length, IfSome};
+ghost use Rattle.std.specs.Option.{option_map};
+ghost use Rattle.mt940_cuts.specs.Cuts.{dates_of, has_funds, is_code as is_code_byte, is_type, slashes_from, key_of, key_in, details_of, mark_at, parts_of, shown};
 
 use crate::mark::{Mark, mark_of};
 use crate::slices::{behind, digits, is_sized};
@@ -8,27 +9,28 @@ use domain::account::is_capital;
 use domain::key::Key;
 use fields::{is_digit, run_length};
 
-// What a :61: that has its form is cut into: its entry date, if it has one, its mark, where its amount begins, and the
-// key of its reference.
-#[derive(Clone, Copy, PartialEq, Eq)]
-pub struct Parts {
+// What a :61: that has its form is cut into: its value date, its entry date, if it has one, its mark, the bytes from its
+// amount on, and the key of its reference.
+#[derive(Clone, Copy, PartialEq, Eq, Debug)]
+pub struct Parts<'a> {
+    pub value_date: [u8; 6],
     pub entry_date: Option<[u8; 4]>,
     pub mark: Mark,
-    pub run: usize,
+    pub run: &'a [u8],
     pub key: Key,
 }
 
-// The entry date, if a digit stands behind the value date; or none where the dates have not their digits.
+// The value date, and the entry date if a digit stands behind it; or none where the dates have not their digits.
 #[tactic(auto, unfolding(crate::specs::Cuts::dates_of, crate::specs::Slices::digits_at))]
-fn dates(body: &[u8]) -> Option<Option<[u8; 4]>>
+fn dates(body: &[u8]) -> Option<([u8; 6], Option<[u8; 4]>)>
     ensures { result ≡ dates_of body.now }
 {
-    digits::<6>(body)?;
-    if body.get(6).is_some_and(|b| is_digit(*b)) {
-        digits(behind(body, 6)).map(Some)
-    } else {
-        Some(None)
+    let value_date = digits::<6>(body)?;
+    if !body.get(6).is_some_and(|b| is_digit(*b)) {
+        return Some((value_date, None));
     }
+    let entry_date = digits::<4>(behind(body, 6))?;
+    Some((value_date, Some(entry_date)))
 }
 
 // Whether a funds code stands at the front: a capital, if a digit or a comma follows it.
@@ -92,23 +94,24 @@ fn details(bytes: &[u8]) -> Option<Key>
 
 // Where the mark begins.
 fn mark_at(entry_date: Option<[u8; 4]>) -> usize
-    ensures is { result ≡ mark_at entry_date }
-    ensures small { result ≤ 10 }
+    ensures { result ≡ mark_at entry_date }
 {
     if entry_date.is_some() { 10 } else { 6 }
 }
 
 // The parts of a :61:, or none where it has not its form.
 #[tactic(auto, unfolding(crate::specs::Cuts::parts_of))]
-pub fn cut(body: &[u8]) -> Option<Parts>
-    ensures { result ≡ parts_of body.now }
+pub fn cut(body: &[u8]) -> Option<Parts<'_>>
+    ensures { option_map shown result ≡ parts_of body.now }
 {
-    let entry_date = dates(body)?;
-    let at = mark_at(entry_date);
-    let (mark, n) = mark_of(behind(body, at))?;
-    let run = at + n + usize::from(has_funds(behind(body, at + n)));
-    let key = details(behind(body, run + run_length(behind(body, run))))?;
+    let (value_date, entry_date) = dates(body)?;
+    let marked = behind(body, mark_at(entry_date));
+    let (mark, n) = mark_of(marked)?;
+    let rest = behind(marked, n);
+    let run = behind(rest, usize::from(has_funds(rest)));
+    let key = details(behind(run, run_length(run)))?;
     Some(Parts {
+        value_date,
         entry_date,
         mark,
         run,

@@ -7,6 +7,8 @@ use Rattle.domain.specs.declared.refusal.Refusal.TheVariants.{NoSuchDay, BadAmou
 use Rattle.domain.specs.References.{same_bytes}
 use Rattle.fields.specs.Runs.{run_length}
 use Rattle.calendar.specs.Dates.{day_in}
+use Rattle.std.specs.Option.{option_map}
+use Rattle.mt940_fields.specs.declared.balance.BalanceParts.{BalanceParts}
 use Rattle.mt940_cuts.specs.declared.mark.Mark.{Mark}
 use Rattle.mt940_cuts.specs.declared.mark.Mark.TheVariants.{Credit, Debit}
 use Rattle.mt940_fields.specs.Signs.{amount_in}
@@ -29,13 +31,30 @@ run_in body = drop 10 body
 unfoldable pub balance_mark : List ℕ → Option Mark
 balance_mark body = cond (is_date 6 (date_in body) && run_length (run_in body) == length (run_in body)) (sign_of body) None
 
+-- the body of a balance as it is cut
+pub record BalanceCut : Type 0 where
+  pub mark : Mark
+  pub date : List ℕ
+  pub currency : List ℕ
+  pub run : List ℕ
+
+abbrev pub shown : BalanceParts → BalanceCut
+shown p = record { mark = p.mark; date = p.date; currency = p.currency.now; run = p.run.now }
+
+abbrev pub cut_with : List ℕ → Mark → BalanceCut
+cut_with body mark = record { mark = mark; date = date_in body; currency = currency_in body; run = run_in body }
+
+-- the parts of a balance that has its form
+unfoldable pub balance_cut : List ℕ → Option BalanceCut
+balance_cut body = option_map (cut_with body) (balance_mark body)
+
 -- a balance that has its form, in this account: its day, its amount and its currency, judged in this order
-unfoldable pub balance_of : Account → Mark → List ℕ → Result Balance Refusal
-balance_of account mark body =
-    elim (day_in (date_in body)) [
+unfoldable pub balance_of : Account → BalanceCut → Result Balance Refusal
+balance_of account p =
+    elim (day_in p.date) [
       | None ↦ Err NoSuchDay
-      | Some d ↦ elim (amount_in account.digits mark (run_in body)) [
+      | Some d ↦ elim (amount_in account.digits p.mark p.run) [
         | None ↦ Err BadAmount
-        | Some a ↦ cond (same_bytes (currency_in body) account.currency.code) (Ok (record { day = d; amount = a })) (Err BadCurrency)
+        | Some a ↦ cond (same_bytes p.currency account.currency.code) (Ok (record { day = d; amount = a })) (Err BadCurrency)
       ]
     ]

@@ -1,5 +1,6 @@
 // What a :61: says of its entry.
 ghost use Rattle.std.specs.Prelude.{◌≡◌};
+ghost use Rattle.mt940_cuts.specs.Cuts.{shown};
 ghost use Rattle.mt940_fields.specs.Movements.{entered_on, movement_of, stated_in};
 
 use crate::sign::amount_in;
@@ -11,7 +12,6 @@ use domain::entry::Kind;
 use domain::key::Key;
 use domain::refusal::Refusal;
 use mt940_cuts::cutting::{Parts, cut};
-use mt940_cuts::slices::{behind, front};
 use mt940_cuts::tag::{Field, Tag, tagged};
 
 // All that an entry has but its place. It is no `Entry`, since a line does not know where in its text it stands.
@@ -25,23 +25,25 @@ pub struct Movement {
 }
 
 // The entry day: that of the entry date, or the value day where there is none.
-fn entered_on(body: &[u8], entry_date: Option<[u8; 4]>, value_day: Day) -> Option<Day>
-    ensures { result ≡ entered_on entry_date value_day body.now }
+fn entered_on(value_date: [u8; 6], entry_date: Option<[u8; 4]>, value_day: Day) -> Option<Day>
+    ensures { result ≡ entered_on value_date entry_date value_day }
 {
     match entry_date {
-        Some(month_day) => entry_day(front(body, 6), &month_day),
+        Some(month_day) => entry_day(&value_date, &month_day),
         None => Some(value_day),
     }
 }
 
 // What a :61: that has its form says of its entry: its days and its amount.
 #[tactic(auto, unfolding(crate::specs::Movements::movement_of))]
-pub fn movement_in(body: &[u8], parts: Parts, digits: Digits) -> Result<Movement, Refusal>
-    ensures { result ≡ movement_of digits parts body.now }
+pub fn movement_in(parts: Parts<'_>, digits: Digits) -> Result<Movement, Refusal>
+    ensures { result ≡ movement_of digits (shown parts.entry) }
 {
-    let value_day = day_in(front(body, 6)).ok_or(Refusal::NoSuchDay)?;
-    let entry_day = entered_on(body, parts.entry_date, value_day).ok_or(Refusal::NoSuchDay)?;
-    let amount = amount_in(behind(body, parts.run), parts.mark, digits)?;
+    let value_day = day_in(&parts.value_date).ok_or(Refusal::NoSuchDay)?;
+    let entry_day = entered_on(parts.value_date, parts.entry_date, value_day).ok_or(
+        Refusal::NoSuchDay,
+    )?;
+    let amount = amount_in(parts.run, parts.mark, digits)?;
     Ok(Movement {
         value_day,
         entry_day,
@@ -60,5 +62,5 @@ pub fn stated(line: &[u8], digits: Digits) -> Option<Movement>
     if tag != Tag::Entry {
         return None;
     }
-    movement_in(body, cut(body)?, digits).ok()
+    movement_in(cut(body)?, digits).ok()
 }

@@ -10,14 +10,13 @@ use Rattle.domain.specs.Entries.{same_int}
 use Rattle.domain.specs.Limits.{is_number}
 use Rattle.domain.proofs.Sames.{decides_same_int}
 use Rattle.text.specs.Lines.{is_formed}
-use Rattle.mt940_cuts.specs.declared.cutting.Parts.{Parts}
 use Rattle.mt940_fields.specs.declared.movement.Movement.{Movement}
 use Rattle.mt940_cuts.specs.declared.tag.Tag.{Tag}
 use Rattle.mt940_cuts.specs.declared.tag.Tag.TheVariants.{Reference, Related, Account, Number, Opening, Entry, Closing, Note, Hyphen, Further}
 use Rattle.mt940_cuts.specs.declared.tag.Page.TheVariants.{First, Later}
 use Rattle.mt940_cuts.specs.declared.tag.End.TheVariants.{Last, Middle}
-use Rattle.mt940_fields.specs.Balances.{balance_mark, balance_of}
-use Rattle.mt940_cuts.specs.Cuts.{parts_of}
+use Rattle.mt940_fields.specs.Balances.{balance_cut, balance_of}
+use Rattle.mt940_cuts.specs.Cuts.{Cut, parts_of}
 use Rattle.mt940_fields.specs.Movements.{movement_of, stated_by, stated_in}
 use Rattle.mt940_fields.specs.Numbers.{numbers_of}
 use Rattle.mt940_cuts.specs.Slices.{is_sized}
@@ -96,9 +95,9 @@ arrived_stage : (s : State) (t : Tag) (body : List ℕ) → IfOk (arrived_of s t
 unfolding arrived_of
 arrived_stage s t body =
     let P : Arrival → Type 0 = λ a. placed s.stage t ≡ Ok a.stage in
-    made_need P _ (balance_mark body) Form
-    (λ mark _. made_then P _ (placed s.stage t)
-    (λ g e. made_then P (λ b. Ok (record { stage = g; balance = b })) (balance_of s.account mark body) (λ b _. e)))
+    made_need P _ (balance_cut body) Form
+    (λ p _. made_then P _ (placed s.stage t)
+    (λ g e. made_then P (λ b. Ok (record { stage = g; balance = b })) (balance_of s.account p) (λ b _. e)))
 
 went_opened : (s : State) (body : List ℕ) → IfOk (opened_first s body) (Went s None)
 unfolding opened_first
@@ -151,9 +150,9 @@ went_entered s body =
     let P : State → Type 0 = Went s (stated_by s.account.digits body) in
     made_need P _ (parts_of body) Form
     (λ p e. made_then P _ (placed s.stage Entry)
-    (λ g f. made_then P _ (movement_of s.account.digits p body)
+    (λ g f. made_then P _ (movement_of s.account.digits p)
     (λ m h.
-    let is : stated_by s.account.digits body ≡ Some m = ap (λ (o : Option Parts). elim o as (λ _. Option Movement) [ None ↦ None | Some q ↦ result_ok (movement_of s.account.digits q body) ]) e ∙ ap result_ok h in
+    let is : stated_by s.account.digits body ≡ Some m = ap (λ (o : Option Cut). elim o as (λ _. Option Movement) [ None ↦ None | Some q ↦ result_ok (movement_of s.account.digits q) ]) e ∙ ap result_ok h in
     cond_both (leb 4096 s.count) (Err TooMuch) (Ok (added s g m)) (λ r. IfOk r P)
     (λ _. tt)
     (λ room. record {

@@ -15,7 +15,7 @@ use Rattle.mt940_cuts.specs.declared.tag.Tag.{Tag}
 use Rattle.mt940_cuts.specs.declared.tag.Tag.TheVariants.{Reference, Related, Account, Number, Opening, Entry, Closing, Note, Hyphen, Further}
 use Rattle.mt940_cuts.specs.declared.tag.Page.TheVariants.{First, Later}
 use Rattle.mt940_cuts.specs.declared.tag.End.TheVariants.{Last, Middle}
-use Rattle.mt940_fields.specs.Balances.{balance_mark, balance_of}
+use Rattle.mt940_fields.specs.Balances.{balance_cut, balance_of}
 use Rattle.mt940_cuts.specs.Cuts.{parts_of}
 use Rattle.mt940_fields.specs.Movements.{movement_of}
 use Rattle.mt940_fields.specs.Numbers.{numbers_of}
@@ -82,9 +82,9 @@ numbered_of s body =
 -- a balance that is permitted where it stands, and the stage that it leads to
 unfoldable pub arrived_of : State → Tag → List ℕ → Result Arrival Refusal
 arrived_of s t body =
-    need (balance_mark body) Form (λ mark.
+    need (balance_cut body) Form (λ p.
     and_then (placed s.stage t) (λ g.
-    and_then (balance_of s.account mark body) (λ b. Ok (record { stage = g; balance = b }))))
+    and_then (balance_of s.account p) (λ b. Ok (record { stage = g; balance = b }))))
 
 -- the statement's opening plus the entries so far
 abbrev pub sum_of : State → ℤ
@@ -121,7 +121,7 @@ unfoldable pub entered_of : State → List ℕ → Result State Refusal
 entered_of s body =
     need (parts_of body) Form (λ p.
     and_then (placed s.stage Entry) (λ g.
-    and_then (movement_of s.account.digits p body) (λ m.
+    and_then (movement_of s.account.digits p) (λ m.
     cond (nat_le 4096 s.count) (Err TooMuch) (Ok (added s g m)))))
 
 -- what stands behind a tag

@@ -13,13 +13,14 @@ use domain::refusal::Refusal;
 use mt940_cuts::cutting::cut;
 use mt940_cuts::slices::is_sized;
 use mt940_cuts::tag::{Field, Page, Tag, tagged};
-use mt940_fields::balance::{balance_in, balance_mark};
+use mt940_fields::balance::{balance_in, cut_balance};
 use mt940_fields::movement::movement_in;
 use mt940_fields::number::{PageNumber, numbers};
 use text::{Reading, is_formed};
 
 // The most bytes of a :20: or a :21:, and of a :25:.
 const LONGEST_REFERENCE: usize = 16;
+
 const LONGEST_ACCOUNT: usize = 35;
 
 // What has been read: the account that it is read for, where in its page the reader stands, which page that is, the
@@ -115,9 +116,9 @@ impl State {
     fn arrived(self, field: Field<'_>) -> Result<Arrival, Refusal>
         ensures { result ≡ arrived_of self field.entry.tag field.entry.body.now }
     {
-        let mark = balance_mark(field.body).ok_or(Refusal::Form)?;
+        let parts = cut_balance(field.body).ok_or(Refusal::Form)?;
         let stage = place(self.stage, field.tag)?;
-        let balance = balance_in(field.body, mark, self.account)?;
+        let balance = balance_in(parts, self.account)?;
         Ok(Arrival { stage, balance })
     }
 
@@ -188,7 +189,7 @@ impl State {
     {
         let parts = cut(body).ok_or(Refusal::Form)?;
         let stage = place(self.stage, Tag::Entry)?;
-        let movement = movement_in(body, parts, self.account.digits)?;
+        let movement = movement_in(parts, self.account.digits)?;
         if self.count >= MOST_ENTRIES {
             return Err(Refusal::TooMuch);
         }
