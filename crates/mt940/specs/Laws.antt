@@ -7,7 +7,7 @@ use Rattle.std.proofs.lemmas.Result.{IfOk-at_ok}
 use Rattle.std.specs.Option.{option_map}
 use Rattle.domain.specs.declared.entry.Place.{Place}
 use Rattle.text.specs.Lines.{content_of}
-use Rattle.readers.specs.declared.account.Account.{Account}
+use Rattle.domain.specs.declared.account.Account.{Account}
 use Rattle.readers.specs.Tallies as readers
 use Rattle.mt940_fields.specs.declared.movement.Movement.{Movement}
 use Rattle.mt940_fields.specs.Movements.{stated_in}

@@ -3,14 +3,14 @@ use Rattle.std.specs.Prelude.{ℕ, List, Result}
 use Rattle.domain.specs.declared.refusal.Refused.{Refused}
 use Rattle.source.specs.declared.Head.{Head}
 use Rattle.source.specs.Statement.{Statement}
-use Rattle.readers.specs.declared.account.Account.{Account}
+use Rattle.domain.specs.declared.account.Account.{Account}
 use Rattle.readers.specs.Whole as readers
 use Rattle.mt940_pages.specs.declared.state.State.{State}
 use Rattle.mt940_pages.specs.Judging.{begin, is_done, step_of}
 use Rattle.mt940.specs.Entries.{stated_at}
 
 abbrev pub begin_for : Account → State
-begin_for account = begin (record { currency = account.currency; digits = account.digits })
+begin_for account = begin account
 
 -- what a text's lines say when they have led to this end
 abbrev pub head_of : State → Head

@@ -5,11 +5,11 @@ ghost use Rattle.mt940.specs.Tallies.{Tallies};
 ghost use Rattle.mt940.specs.Whole.{begin_for, head_of};
 
 use crate::place::place_of;
+use domain::account::Account;
 use domain::entry::{Entry, Side};
 use mt940_fields::movement::stated;
 use mt940_pages::state::{State, begin};
 use readers::Reader;
-use readers::account::Account;
 use readers::format::Format;
 use readers::passage::Passage;
 use source::{Head, Sided};
@@ -45,8 +45,7 @@ impl Format for Mt940Format {
     ghost closes = { closes };
 
     fn begin(account: Account) -> State {
-        let Account { currency, digits } = account;
-        begin(domain::account::Account { currency, digits })
+        begin(account)
     }
 
     fn head(end: State) -> Head {
