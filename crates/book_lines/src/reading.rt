@@ -14,6 +14,7 @@ use fields::{small_number, units};
 use text::is_formed;
 
 // The number, the day and the amount with which the lines of an opening and of a closing end.
+// A triple and no struct inside `Opening` and `Closing`: the number is a statement's in the one and a count in the other, and each is read by its own name.
 fn balance_in(mut fields: Fields<'_>) -> Option<(u32, Option<Day>, Option<Amount>)>
     ensures { result ≡ balance_of (fields_left fields.entry) }
 {
