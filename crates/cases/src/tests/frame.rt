@@ -28,6 +28,7 @@ fn framed(heap: Global, frame: &Frame, line: &str) -> Result<Vec<u8>, AllocError
     Ok(text)
 }
 
+// The handle and the heap are two parameters here and in reports: a `&HostRuntime` in place of both has no `Abort` outside the test that takes it (tried).
 pub(crate) fn check_lines(
     rt: &impl Abort,
     heap: Global,

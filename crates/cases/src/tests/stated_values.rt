@@ -1,7 +1,10 @@
 // Statements in which every field occurs, read back field by field.
 use book::cash_book::CashBook;
-use domain::entry::{Entry, Kind};
+use domain::amount::Amount;
+use domain::day::Day;
+use domain::entry::{Entry, Kind, Place};
 use domain::key::Key;
+use domain::refusal::Refusal;
 use mt940::reader::Mt940;
 use source::{Head, Source};
 use std::process::Abort;
@@ -38,37 +41,28 @@ fn check_head(rt: &impl Abort, head: Head, wanted: &Heading, when: &str) -> Resu
     Ok(())
 }
 
-fn check_entry(rt: &impl Abort, entry: Entry, wanted: &Stated) -> Result<(), Fail> {
-    let at = wanted.offset;
-    assert_eq!(rt;
-        entry.value_day.number(),
-        wanted.value_day,
-        "the entry at {at}"
-    );
-    assert_eq!(rt;
-        entry.entry_day.number(),
-        wanted.entry_day,
-        "the entry at {at}"
-    );
-    assert_eq!(rt; entry.amount.minor(), wanted.amount, "the entry at {at}");
-    assert_eq!(rt; entry.kind, wanted.kind, "the entry at {at}");
-    assert!(rt;
-        entry.key == Key::try_from(wanted.reference)?,
-        "the entry at {at}"
-    );
-    assert_eq!(rt; entry.place.offset, wanted.offset, "the entry at {at}");
-    assert_eq!(rt; entry.place.length, wanted.length, "the entry at {at}");
-    Ok(())
+// The entry that this says.
+fn entry_of(stated: &Stated) -> Result<Entry, Refusal> {
+    Ok(Entry {
+        value_day: Day::try_from(stated.value_day)?,
+        entry_day: Day::try_from(stated.entry_day)?,
+        amount: Amount::try_from(stated.amount)?,
+        kind: stated.kind,
+        key: Key::try_from(stated.reference)?,
+        place: Place {
+            offset: stated.offset,
+            length: stated.length,
+        },
+    })
 }
 
 fn check_next<S: Source>(rt: &impl Abort, source: &mut S, wanted: &Stated) -> Result<(), Fail>
     requires { S.Source.ready source.old }
     ensures { S.Source.ready source.new }
 {
-    match source.next() {
-        Some(entry) => check_entry(rt, entry, wanted),
-        None => Err(Fail::new("no entry is left")),
-    }
+    let at = wanted.offset;
+    assert_eq!(rt; source.next(), Some(entry_of(wanted)?), "the entry at {at}");
+    Ok(())
 }
 
 // Two pages, the second with lines that end in CR LF.
