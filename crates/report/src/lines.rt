@@ -42,6 +42,8 @@ impl<'a> Iterator for Rows<'a> {
 
     ghost remaining = { item_count rows_left };
 
+    // No `chain` and `map` in its place: a struct's field or a result cannot name the type of the closure. No `filter`: the report is
+    // defined with a line for each item, which is empty where the item is not outstanding.
     // No `or_else`: where closures take from the three in turn, no proof knows what they left (tried).
     fn next(&mut self) -> Option<Line> {
         if let Some(line) = self.above.next() {

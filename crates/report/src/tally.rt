@@ -13,7 +13,7 @@ impl<'a> Report<'a> {
         open.count()
     }
 
-    // No `map(..).sum()`: the amounts are signed, and that what is added so far fits is known of the loop's turns alone.
+    // No `map(..).sum()`: the library gives no bound for a sum of signed numbers, so the loop's turns do.
     pub(crate) fn open_sum(&self, side: Side) -> i64
         ensures { result ≡ open_sum side self.now.items.now }
     {
