@@ -2,7 +2,6 @@
 use Rattle.std.specs.Prelude.{ℕ, Bool, cond, ◌||◌, Some, None, Ok, Err, Option, Result, ◌==◌, nat_lt}
 use Rattle.domain.specs.declared.refusal.Refusal.{Refusal}
 use Rattle.domain.specs.declared.refusal.Refusal.TheVariants.{BadTable}
-use Rattle.domain.specs.declared.limits.TheConstants.{MOST_ITEMS}
 use Rattle.ledger.specs.declared.denied.Denied.{Denied}
 
 -- refused for this where a test holds, else as the rest says: tests stand in the order of their numbers, so the smallest is given
@@ -11,7 +10,7 @@ refused_if test why rest = cond test (Some why) rest
 
 -- a table of n positions has none, more than 8,192 or fewer than are in use
 abbrev pub bad_table : ℕ → ℕ → Bool
-bad_table n used = n == 0 || (nat_lt MOST_ITEMS n || nat_lt n used)
+bad_table n used = n == 0 || (nat_lt 8192 n || nat_lt n used)
 
 abbrev pub table_denied : ℕ → ℕ → Option Refusal
 table_denied n used = refused_if (bad_table n used) BadTable None

@@ -1,5 +1,4 @@
 ghost use Rattle.std.specs.Prelude.{◌≡◌, ◌≤◌, OnOk};
-ghost use Rattle.domain.specs.declared.limits.TheConstants.{MOST_ITEMS};
 ghost use Rattle.ledger.specs.Denials.{answered, table_denied};
 
 use crate::ledger::Ledger;
@@ -10,7 +9,7 @@ use domain::refusal::Refusal;
 pub(crate) fn check_table(n: usize, used: usize) -> Result<(), Refusal>
     ensures why { result ≡ answered (table_denied n used) tt }
     ensures room { OnOk result (used ≤ n) }
-    ensures few { OnOk result (n ≤ MOST_ITEMS) }
+    ensures few { OnOk result (n ≤ 8192) }
 {
     if !(used.max(1)..=MOST_ITEMS).contains(&n) {
         return Err(Refusal::BadTable);
@@ -23,7 +22,7 @@ impl Ledger {
     pub fn check_table(&self, n: usize) -> Result<(), Refusal>
         ensures why { result ≡ answered (table_denied n self.now.used) tt }
         ensures room { OnOk result (self.now.used ≤ n) }
-        ensures few { OnOk result (n ≤ MOST_ITEMS) }
+        ensures few { OnOk result (n ≤ 8192) }
     {
         check_table(n, self.used)
     }

@@ -2,7 +2,6 @@
 use Rattle.std.specs.Borrow.{Bor}
 use Rattle.std.specs.Prelude.{◌≡◌, ◌<◌, ℕ, zero, suc, ◌+◌, min, Bool, cond, List, length, is_some, Some, None, Option, nat_le, slice_index_or, slice_set}
 use Rattle.domain.specs.declared.entry.Item.{Item}
-use Rattle.domain.specs.declared.limits.TheConstants.{MOST_ITEMS}
 use Rattle.domain.specs.Blanks.{blank}
 
 -- the item at a position
@@ -51,7 +50,7 @@ highest_below test (suc n) xs = cond (test (item_at xs n)) (Some n) (highest_bel
 
 -- More items than a table may have are left alone.
 abbrev pub if_few : {X : Type 0} → List Item → X → X → X
-if_few xs new old = cond (nat_le (length xs) MOST_ITEMS) new old
+if_few xs new old = cond (nat_le (length xs) 8192) new old
 
 -- what a pass over all positions leaves of the items, and how many groups it forms
 abbrev pub Grouped : Finder → List Item → List Item → ℕ → Type 0

@@ -1,6 +1,5 @@
 ghost use Rattle.std.specs.Prelude.{◌≡◌, ℕ, ◌+◌, ◌^◌, ◌<◌, ◌≤◌, min, length, Some, position, IfSome};
 ghost use Rattle.matching.specs.Grouping.{Finder, FindsBy, joined_at, highest_below, if_few, Grouped};
-ghost use Rattle.domain.specs.declared.limits.TheConstants.{MOST_ITEMS};
 ghost use Rattle.domain.specs.Items.{open_on};
 ghost use Rattle.matching.specs.Matching.{partners, partner_of, matched, matches as match_count, NoneToPair};
 ghost use Rattle.matching.specs.Folding.{open_reversal, undoes as reverses, original_of, folded, folds as fold_count, NoneToFold};
@@ -73,7 +72,7 @@ fn partner_of<R: MatchRule>(items: &[Item], i: usize, rule: &R) -> Option<usize>
 pub fn match_all<R: MatchRule>(items: &mut [Item], rule: &R) -> usize
     ensures table { items.new ≡ if_few items.old (matched (R.MatchRule.permits rule.now) items.old) items.old }
     ensures answer { result ≡ if_few items.old (match_count (R.MatchRule.permits rule.now) items.old) 0 }
-    ensures settled { length items.old ≤ MOST_ITEMS → NoneToPair (R.MatchRule.permits rule.now) items.new }
+    ensures settled { length items.old ≤ 8192 → NoneToPair (R.MatchRule.permits rule.now) items.new }
 {
     join_each(items, |items, i| partner_of(items, i, rule))
 }
@@ -122,7 +121,7 @@ fn original_of(items: &[Item], i: usize) -> Option<usize>
 pub fn fold_all(items: &mut [Item]) -> usize
     ensures table { items.new ≡ if_few items.old (folded items.old) items.old }
     ensures answer { result ≡ if_few items.old (fold_count items.old) 0 }
-    ensures settled { length items.old ≤ MOST_ITEMS → NoneToFold items.new }
+    ensures settled { length items.old ≤ 8192 → NoneToFold items.new }
 {
     join_each(items, |items, i| original_of(items, i))
 }

@@ -18,7 +18,7 @@ use Rattle.readers.specs.Within.{Within}
 
 -- what is looked at before the lines: digits, currency and length
 abbrev pub admitted_of : List ℕ → List ℕ → ℕ → Result Account Refusal
-admitted_of text code digits = and_then (account_of code digits) (λ account. cond (nat_le (length text) LONGEST) (Ok account) (Err TooMuch))
+admitted_of text code digits = and_then (account_of code digits) (λ account. cond (nat_le (length text) 1048576) (Ok account) (Err TooMuch))
 
 -- the statement of a head and the entries behind it
 abbrev pub statement_of : Head → List Entry → Statement
