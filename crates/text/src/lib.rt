@@ -1,10 +1,10 @@
 // Lines, and texts that are read line by line.
 #![tactic(auto)]
 
-ghost use Rattle.std.specs.Prelude.{◌≡◌, ℕ, ◌<◌, ◌≤◌, Bool, List, length, drop, IfSome, IfOk, Result};
+ghost use Rattle.std.specs.Prelude.{◌≡◌, ℕ, ◌<◌, ◌≤◌, Bool, List, length, take, drop, IfSome, IfOk, Result};
 ghost use Rattle.domain.specs.declared.refusal.Refusal.{Refusal};
 ghost use Rattle.std.specs.Iterator.{YieldsFirstBy, item_count};
-ghost use Rattle.text.specs.Lines.{from, is_formed, is_whole, lines_from};
+ghost use Rattle.text.specs.Lines.{content_of, from, is_formed, is_whole, lines_from};
 ghost use Rattle.text.specs.Left.{shown, lines_left};
 ghost use Rattle.text.specs.Scanning.{scan_from};
 
@@ -21,6 +21,15 @@ pub fn find(text: &[u8], b: u8, at: usize) -> Option<usize>
 {
     let left = text.get(at..)?;
     left.iter().position(|x| *x == b).map(|i| at + i)
+}
+
+// How many bytes of a line stand before its CR.
+#[tactic(auto, unfolding(crate::specs::Lines::content_of))]
+pub fn content(raw: &[u8]) -> usize
+    ensures is { take result raw.now ≡ content_of raw.now }
+    ensures within { result ≤ length raw.now }
+{
+    Line { at: 0, raw }.content().len()
 }
 
 // The lines of a text from an offset on; what stands behind the last LF is no line.
