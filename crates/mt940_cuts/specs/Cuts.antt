@@ -1,5 +1,7 @@
 -- How a :61: is cut: it is a value date, perhaps an entry date, a mark, perhaps a capital, an amount, a type and a reference.
 use Rattle.std.specs.Prelude.{ℕ, ◌+◌, Bool, cond, ◌&&◌, ◌||◌, List, [], ◌∷◌, take, drop, Some, None, codes, Option, nat_le, slice_index, is_some}
+use Rattle.std.specs.Borrow.{Bor}
+use Rattle.std.specs.Option.{option_map}
 use Rattle.domain.specs.declared.key.Key.{Key}
 use Rattle.domain.specs.Currencies.{is_capital}
 use Rattle.domain.specs.Makers.{as_key}
@@ -17,8 +19,15 @@ pub record Cut : Type 0 where
   pub run : List ℕ
   pub key : Key
 
+-- bytes that may be none, and two dates, as the lists of their bytes
+abbrev pub shown_date : Option (Bor (List ℕ)) → Option (List ℕ)
+shown_date date = option_map (λ d. d.now) date
+
+abbrev pub shown_dates : Bor (List ℕ) × Option (Bor (List ℕ)) → List ℕ × Option (List ℕ)
+shown_dates d = (d.0.now, shown_date d.1)
+
 abbrev pub shown : Parts → Cut
-shown p = record { value_date = p.value_date; entry_date = p.entry_date; mark = p.mark; run = p.run.now; key = p.key }
+shown p = record { value_date = p.value_date.now; entry_date = shown_date p.entry_date; mark = p.mark; run = p.run.now; key = p.key }
 
 -- the value date of six digits, with the entry date of four behind it
 abbrev pub with_entry : List ℕ → Option (List ℕ) → Option (List ℕ × Option (List ℕ))

@@ -1,10 +1,10 @@
 // How a :61: is cut into its parts.
 ghost use Rattle.std.specs.Prelude.{◌≡◌, ◌+◌, ◌<◌, length, IfSome};
 ghost use Rattle.std.specs.Option.{option_map};
-ghost use Rattle.mt940_cuts.specs.Cuts.{dates_of, has_funds, is_code as is_code_byte, is_type, slashes_from, key_of, key_in, details_of, mark_at, parts_of, shown};
+ghost use Rattle.mt940_cuts.specs.Cuts.{dates_of, has_funds, is_code as is_code_byte, is_type, slashes_from, key_of, key_in, details_of, mark_at, parts_of, shown, shown_date, shown_dates};
 
 use crate::mark::{Mark, mark_of};
-use crate::slices::{behind, digits, is_sized};
+use crate::slices::{behind, digits, front, is_sized};
 use domain::account::is_capital;
 use domain::key::Key;
 use fields::{is_digit, run_length};
@@ -13,8 +13,8 @@ use fields::{is_digit, run_length};
 // amount on, and the key of its reference.
 #[derive(Clone, Copy, PartialEq, Eq, Debug)]
 pub struct Parts<'a> {
-    pub value_date: [u8; 6],
-    pub entry_date: Option<[u8; 4]>,
+    pub value_date: &'a [u8],
+    pub entry_date: Option<&'a [u8]>,
     pub mark: Mark,
     pub run: &'a [u8],
     pub key: Key,
@@ -22,15 +22,16 @@ pub struct Parts<'a> {
 
 // The value date, and the entry date if a digit stands behind it; or none where the dates have not their digits.
 #[tactic(auto, unfolding(crate::specs::Cuts::dates_of, crate::specs::Slices::digits_at))]
-fn dates(body: &[u8]) -> Option<([u8; 6], Option<[u8; 4]>)>
-    ensures { result ≡ dates_of body.now }
+fn dates(body: &[u8]) -> Option<(&[u8], Option<&[u8]>)>
+    ensures { option_map shown_dates result ≡ dates_of body.now }
 {
-    let value_date = digits::<6>(body)?;
+    digits::<6>(body)?;
+    let value_date = front(body, 6);
     if !body.get(6).is_some_and(|b| is_digit(*b)) {
         return Some((value_date, None));
     }
-    let entry_date = digits::<4>(behind(body, 6))?;
-    Some((value_date, Some(entry_date)))
+    digits::<4>(behind(body, 6))?;
+    Some((value_date, Some(front(behind(body, 6), 4))))
 }
 
 // Whether a funds code stands at the front: a capital, if a digit or a comma follows it.
@@ -93,8 +94,8 @@ fn details(bytes: &[u8]) -> Option<Key>
 }
 
 // Where the mark begins.
-fn mark_at(entry_date: Option<[u8; 4]>) -> usize
-    ensures { result ≡ mark_at entry_date }
+fn mark_at(entry_date: Option<&[u8]>) -> usize
+    ensures { result ≡ mark_at (shown_date entry_date.entry) }
 {
     if entry_date.is_some() { 10 } else { 6 }
 }

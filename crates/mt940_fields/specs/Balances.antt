@@ -39,7 +39,7 @@ pub record BalanceCut : Type 0 where
   pub run : List ℕ
 
 abbrev pub shown : BalanceParts → BalanceCut
-shown p = record { mark = p.mark; date = p.date; currency = p.currency.now; run = p.run.now }
+shown p = record { mark = p.mark; date = p.date.now; currency = p.currency.now; run = p.run.now }
 
 abbrev pub cut_with : List ℕ → Mark → BalanceCut
 cut_with body mark = record { mark = mark; date = date_in body; currency = currency_in body; run = run_in body }

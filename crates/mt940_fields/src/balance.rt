@@ -1,12 +1,12 @@
 // The balances of :60: and :62:.
 ghost use Rattle.std.specs.Prelude.{◌≡◌};
 ghost use Rattle.std.specs.Option.{option_map};
-ghost use Rattle.mt940_fields.specs.Balances.{sign_of, balance_cut, balance_of, shown};
+ghost use Rattle.mt940_fields.specs.Balances.{sign_of, balance_mark, balance_cut, balance_of, shown};
 
 use crate::sign::amount_in;
 use calendar::day_in;
 use domain::account::Account;
-use domain::balance::Balance;
+pub use domain::balance::Balance;
 use domain::entry::Kind;
 use domain::refusal::Refusal;
 use fields::run_length;
@@ -18,7 +18,7 @@ use mt940_cuts::slices::{behind, digits, front};
 #[derive(Clone, Copy, PartialEq, Eq, Debug)]
 pub struct BalanceParts<'a> {
     pub mark: Mark,
-    pub date: [u8; 6],
+    pub date: &'a [u8],
     pub currency: &'a [u8],
     pub run: &'a [u8],
 }
@@ -32,23 +32,30 @@ fn sign(body: &[u8]) -> Option<Mark>
     (Kind::from(mark) == Kind::Ordinary).then_some(mark)
 }
 
-// The parts of a balance that has its form: a mark, a date, up to three bytes of currency, and a run of digits and commas to the end.
-#[tactic(auto, unfolding(crate::specs::Balances::balance_mark, crate::specs::Balances::balance_cut, mt940_cuts::specs::Slices::digits_at))]
-pub fn cut_balance(body: &[u8]) -> Option<BalanceParts<'_>>
-    ensures { option_map shown result ≡ balance_cut body.now }
+// The mark of a balance that has its form: a mark, a date, up to three bytes of currency, and a run of digits and commas to the end.
+#[tactic(auto, unfolding(crate::specs::Balances::balance_mark, mt940_cuts::specs::Slices::digits_at))]
+pub fn balance_mark(body: &[u8]) -> Option<Mark>
+    ensures { result ≡ balance_mark body.now }
 {
-    let date = digits::<6>(behind(body, 1))?;
-    let currency = front(behind(body, 7), 3);
+    digits::<6>(behind(body, 1))?;
     let run = behind(body, 10);
     if run_length(run) != run.len() {
         return None;
     }
-    let mark = sign(body)?;
+    sign(body)
+}
+
+// The parts of a balance that has its form.
+#[tactic(auto, unfolding(crate::specs::Balances::balance_cut))]
+pub fn cut_balance(body: &[u8]) -> Option<BalanceParts<'_>>
+    ensures { option_map shown result ≡ balance_cut body.now }
+{
+    let mark = balance_mark(body)?;
     Some(BalanceParts {
         mark,
-        date,
-        currency,
-        run,
+        date: front(behind(body, 1), 6),
+        currency: front(behind(body, 7), 3),
+        run: behind(body, 10),
     })
 }
 
@@ -57,7 +64,7 @@ pub fn cut_balance(body: &[u8]) -> Option<BalanceParts<'_>>
 pub fn balance_in(parts: BalanceParts<'_>, account: Account) -> Result<Balance, Refusal>
     ensures { result ≡ balance_of account (shown parts.entry) }
 {
-    let day = day_in(&parts.date).ok_or(Refusal::NoSuchDay)?;
+    let day = day_in(parts.date).ok_or(Refusal::NoSuchDay)?;
     let amount = amount_in(parts.run, parts.mark, account.digits)?;
     let own = account.currency.code();
     if parts.currency != own.as_slice() {

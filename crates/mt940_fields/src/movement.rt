@@ -1,6 +1,6 @@
 // What a :61: says of its entry.
 ghost use Rattle.std.specs.Prelude.{◌≡◌};
-ghost use Rattle.mt940_cuts.specs.Cuts.{shown};
+ghost use Rattle.mt940_cuts.specs.Cuts.{shown, shown_date};
 ghost use Rattle.mt940_fields.specs.Movements.{entered_on, movement_of, stated_in};
 
 use crate::sign::amount_in;
@@ -25,11 +25,11 @@ pub struct Movement {
 }
 
 // The entry day: that of the entry date, or the value day where there is none.
-fn entered_on(value_date: [u8; 6], entry_date: Option<[u8; 4]>, value_day: Day) -> Option<Day>
-    ensures { result ≡ entered_on value_date entry_date value_day }
+fn entered_on(value_date: &[u8], entry_date: Option<&[u8]>, value_day: Day) -> Option<Day>
+    ensures { result ≡ entered_on value_date.now (shown_date entry_date.entry) value_day }
 {
     match entry_date {
-        Some(month_day) => entry_day(&value_date, &month_day),
+        Some(month_day) => entry_day(value_date, month_day),
         None => Some(value_day),
     }
 }
@@ -39,7 +39,7 @@ fn entered_on(value_date: [u8; 6], entry_date: Option<[u8; 4]>, value_day: Day) 
 pub fn movement_in(parts: Parts<'_>, digits: Digits) -> Result<Movement, Refusal>
     ensures { result ≡ movement_of digits (shown parts.entry) }
 {
-    let value_day = day_in(&parts.value_date).ok_or(Refusal::NoSuchDay)?;
+    let value_day = day_in(parts.value_date).ok_or(Refusal::NoSuchDay)?;
     let entry_day = entered_on(parts.value_date, parts.entry_date, value_day).ok_or(
         Refusal::NoSuchDay,
     )?;
