@@ -4,6 +4,7 @@ use Rattle.std.proofs.Common.{arith}
 use Rattle.std.proofs.lemmas.Int.{ints}
 use Rattle.domain.specs.declared.amount.Amount.{Amount}
 use Rattle.domain.specs.declared.digits.Digits.{Digits}
+use Rattle.domain.specs.Makers.{as_amount}
 use Rattle.fields.specs.Commas.{comma_amount}
 use Rattle.mt940_cuts.specs.declared.mark.Mark.{Mark}
 use Rattle.mt940_cuts.specs.declared.mark.Mark.TheVariants.{Credit, Debit, CreditReversed, DebitReversed}
@@ -18,6 +19,13 @@ signed_as Credit a = a
 signed_as Debit a = opposite a
 signed_as CreditReversed a = opposite a
 signed_as DebitReversed a = a
+
+-- the same by the maker of amounts, which may refuse a number; it never does here
+unfoldable pub signed_made : Mark → Amount → Option Amount
+signed_made Credit a = as_amount a.minor
+signed_made Debit a = as_amount (neg_ℤ a.minor)
+signed_made CreditReversed a = as_amount (neg_ℤ a.minor)
+signed_made DebitReversed a = as_amount a.minor
 
 -- the amount at the front, with its sign
 unfoldable pub amount_in : Digits → Mark → List ℕ → Option Amount

@@ -1,7 +1,7 @@
 // What the marks of balances and entries say of their amounts.
-ghost use Rattle.std.specs.Prelude.{◌≡◌};
+ghost use Rattle.std.specs.Prelude.{◌≡◌, Some};
 ghost use Rattle.std.specs.Option.{ok_or};
-ghost use Rattle.mt940_fields.specs.Signs.{signed_as, amount_in};
+ghost use Rattle.mt940_fields.specs.Signs.{signed_as, signed_made, amount_in};
 
 use domain::amount::Amount;
 use domain::digits::Digits;
@@ -9,10 +9,11 @@ use domain::refusal::Refusal;
 use fields::comma_amount;
 use mt940_cuts::mark::Mark;
 
-// The amount with the sign that its mark gives it.
-#[tactic(auto, unfolding(crate::specs::Signs::signed_as), using(domain::proofs::Same::amount_same))]
+// The amount with the sign that its mark gives it: just the one that is made of its signed number, as every amount is made of a number.
+#[tactic(auto, unfolding(crate::specs::Signs::signed_as, crate::specs::Signs::signed_made), using(domain::proofs::Same::amount_same, domain::proofs::Same::as_amount_lem))]
 pub fn signed(mark: Mark, unsigned: Amount) -> Amount
-    ensures { result ≡ signed_as mark unsigned }
+    ensures is { result ≡ signed_as mark unsigned }
+    ensures made { signed_made mark unsigned ≡ Some result }
 {
     match mark {
         Mark::Credit | Mark::DebitReversed => unsigned,
