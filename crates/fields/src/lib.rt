@@ -159,9 +159,13 @@ fn minor(run: &[u8], digits: Digits) -> Option<u64>
     ensures is { result ≡ minor_in (digit_count digits) run.now }
     ensures small { IfSome result (λ n. n < 2 ^ 63) }
 {
+    // Before the search for a comma, so that a run that is too long costs no more for its length.
+    if run.len() > 15 {
+        return None;
+    }
     let (whole, part) = split_once(run, b',')?;
     let most = digits.count() as usize;
-    if run.len() <= 15 && commas(run) == 1 && !whole.is_empty() && part.len() <= most {
+    if commas(run) == 1 && !whole.is_empty() && part.len() <= most {
         Some(scaled(whole, part, digits))
     } else {
         None

@@ -60,7 +60,8 @@ fn partner_of<R: MatchRule>(items: &[Item], i: usize, rule: &R) -> Option<usize>
     requires { i < length items.now }
     ensures { result ≡ partner_of (R.MatchRule.permits rule.now) items.now i }
 {
-    let x = &items[i];
+    // A copy: beside a reference into the items its fields would be read again for each of them.
+    let x = items[i];
     if !x.is_open_on(Side::Bank) {
         return None;
     }
@@ -88,8 +89,9 @@ fn undoes(reversal: &Item, x: &Item) -> bool
     ensures { result ≡ reverses reversal.now x.now }
 {
     let key = reversal.entry.key;
-    x.is_open_on(reversal.side)
-        && x.entry.kind == Kind::Ordinary
+    // The kind first: among reversals that undo nothing here it is the one test that is made.
+    x.entry.kind == Kind::Ordinary
+        && x.is_open_on(reversal.side)
         && !key.is_blank()
         && key == x.entry.key
         && reversal.entry.amount == -x.entry.amount
@@ -108,11 +110,12 @@ fn original_of(items: &[Item], i: usize) -> Option<usize>
     ensures answer { result ≡ original_of items.now i }
     ensures within { IfSome result (λ j. j < length items.now) }
 {
-    let x = &items[i];
-    if !is_open_reversal(x) {
+    // A copy, as above.
+    let x = items[i];
+    if !is_open_reversal(&x) {
         return None;
     }
-    highest_undone(&items[..i], x)
+    highest_undone(&items[..i], &x)
 }
 
 // Folds: each outstanding reversal, by number, forms a group with the item that it undoes, if any: the highest-numbered outstanding
