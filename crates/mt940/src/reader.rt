@@ -14,6 +14,9 @@ use readers::format::Format;
 use readers::passage::Passage;
 use source::{Head, Sided};
 
+// What a reader goes on by: an entry, and the lines behind its :61:.
+pub use readers::Found;
+
 // A reader of MT940: `Mt940::read` reads a text, which is then a source of its entries.
 pub type Mt940<'a> = Reader<'a, Mt940Format>;
 

@@ -1,5 +1,5 @@
 -- A reader that goes on to the next entry, and what it means then.
-use Rattle.std.proofs.Common.{◌≡◌, ℕ, ◌-◌, ◌≤◌, List, [], ◌∷◌, length, ℤ, ◌+ℤ◌, Some, None, Option, sym, ap, ◌∙◌, subst, arith, w64, SFits, to_z, of_z}
+use Rattle.std.proofs.Common.{◌≡◌, ℕ, ◌-◌, ◌≤◌, List, [], ◌∷◌, length, ℤ, ◌+ℤ◌, Some, None, Option, sym, ap, subst, arith, w64, SFits, to_z, of_z}
 use Rattle.domain.specs.declared.entry.Entry.{Entry}
 use Rattle.source.specs.Statement.{Lawful, first, first_of, moved}
 use Rattle.source.proofs.Sums.{lawful_fits, lawful_moved}
@@ -13,34 +13,22 @@ use Rattle.readers.specs.Within.{Within}
 use Rattle.readers.proofs.Sums.{sum_fits, sum_is}
 use Rattle.readers.specs.Whole.{meaning_of, Ready}
 
-module _ {F : Type 0} (stated : Account → ℕ × List ℕ → List (ℕ × List ℕ) → Option Entry) (r : Reader F) (ready : Ready stated r) (lines : Lines) (short : Within LONGEST (lines_left lines)) where
-  -- the entries in the lines that were left, and in those that are
+module _ {F : Type 0} (stated : Account → ℕ × List ℕ → List (ℕ × List ℕ) → Option Entry) (r : Reader F) where
+  -- the entries in the lines that are left
   abbrev before : List Entry
   before = entries_of (stated r.account) (lines_left r.lines)
 
-  abbrev after : List Entry
-  after = entries_of (stated r.account) (lines_left lines)
-
-  abbrev ended : Reader F
-  ended = record { lines = lines; account = r.account; head = r.head; format = r.format }
-
-  module _ (e : before ≡ after) (none : after ≡ []) where
+  -- where none is left, nothing moves
+  module _ (none : before ≡ []) where
     pub none_first : None ≡ first_of (meaning_of stated r)
     unfolding meaning_of
-    none_first = ap first (sym (e ∙ none))
+    none_first = ap first (sym none)
 
-    pub none_moves : meaning_of stated ended ≡ moved (meaning_of stated r)
+    pub none_moves : meaning_of stated r ≡ moved (meaning_of stated r)
     unfolding meaning_of
-    none_moves = rw (e, none)
+    none_moves = rw none
 
-    none_counts : r.head.count ≡ length (meaning_of stated ended).remaining
-    unfolding meaning_of
-    none_counts = ready.counted ∙ ap length e
-
-    pub none_ready : Ready stated ended
-    none_ready = record { short = short; counted = none_counts; lawful = subst Lawful (sym none_moves) (lawful_moved (meaning_of stated r) ready.lawful) }
-
-  module _ (x : Entry) (e : before ≡ x ∷ after) (minor : ℤ) (is : minor ≡ x.amount.minor) where
+  module _ (ready : Ready stated r) (lines : Lines) (short : Within LONGEST (lines_left lines)) (x : Entry) (e : before ≡ x ∷ entries_of (stated r.account) (lines_left lines)) (minor : ℤ) (is : minor ≡ x.amount.minor) where
     pub entry_first : Some x ≡ first_of (meaning_of stated r)
     unfolding meaning_of
     entry_first = ap first (sym e)

@@ -1,7 +1,8 @@
 // The reader of any format: a text is refused as a whole, or is a source of its entries.
 #![tactic(auto)]
 
-ghost use Rattle.std.specs.Prelude.{◌≡◌};
+ghost use Rattle.std.specs.Prelude.{◌≡◌, Some, None, IfSome};
+ghost use Rattle.std.specs.Option.{IfNone};
 ghost use Rattle.text.specs.Left.{lines_left};
 ghost use Rattle.readers.specs.Entries.{Sought};
 ghost use Rattle.readers.specs.Within.{Within};
@@ -29,20 +30,25 @@ pub struct Reader<'a, F> {
     format: PhantomData<F>,
 }
 
-// The first entry in the lines that are left, which are then those behind its line.
-fn seek<F: Format>(lines: &mut Lines<'_>, account: Account) -> Option<Entry>
-    requires { Within LONGEST (lines_left lines.old) }
-    ensures is { Sought (F.stated account) (lines_left lines.old) result (lines_left lines.new) }
-    ensures again { Within LONGEST (lines_left lines.new) }
+// An entry, and the lines behind its own.
+#[derive(Clone, Copy)]
+pub struct Found<'a> {
+    entry: Entry,
+    behind: Lines<'a>,
+}
+
+// The first entry in lines, and the lines behind its own.
+fn seek<'a, F: Format>(lines: Lines<'a>, account: Account) -> Option<Found<'a>>
+    requires { Within LONGEST (lines_left lines) }
+    ensures is { IfSome result (λ f. Sought (F.stated account) (lines_left lines.entry) (Some f.entry) (lines_left f.behind)) }
+    ensures none { IfNone result (Sought (F.stated account) (lines_left lines.entry) None (lines_left lines.entry)) }
+    ensures again { IfSome result (λ f. Within LONGEST (lines_left f.behind)) }
 {
     // A `for` would hold the lines, and `entry` looks ahead over those behind.
-    while let Some(line) = lines.next() {
-        let passage = Passage {
-            line,
-            behind: *lines,
-        };
-        if let Some(entry) = F::entry(account, passage) {
-            return Some(entry);
+    let mut behind = lines;
+    while let Some(line) = behind.next() {
+        if let Some(entry) = F::entry(account, Passage { line, behind }) {
+            return Some(Found { entry, behind });
         }
     }
     None
@@ -83,7 +89,8 @@ impl<'a, F: Format> Source for Reader<'a, F> {
     }
 
     fn next(&mut self) -> Option<Entry> {
-        let entry = seek::<F>(&mut self.lines, self.account)?;
+        let Found { entry, behind } = seek::<F>(self.lines, self.account)?;
+        self.lines = behind;
         self.head.reached += entry.amount.minor();
         self.head.count -= 1;
         Some(entry)
