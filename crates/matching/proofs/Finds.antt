@@ -1,7 +1,7 @@
 -- Searches, and the passes that join what they find.
 use Rattle.std.proofs.Common.{◌≡◌, ℕ, zero, suc, ◌+◌, ◌<◌, ◌≤◌, Bool, true, false, List, length, get_or, take, is_some, Some, None, Option, sym, refl, ap, ◌∙◌, ⊎_elim, add-one, arith}
 use Rattle.std.proofs.lemmas.List.{get_or_default, get_or-take, length-take-le}
-use Rattle.std.proofs.lemmas.Bool.{cond-true, cond-false, cases_lt}
+use Rattle.std.proofs.lemmas.Bool.{cond-true, cond-false, cases_Bool, cases_lt}
 use Rattle.domain.specs.declared.entry.Item.{Item}
 use Rattle.domain.specs.Blanks.{blank}
 use Rattle.matching.specs.Grouping.{Finder, highest_below, item_at, joined_at, joined_with, paired_up_to, pairs_up_to, counted}
@@ -10,14 +10,15 @@ use Rattle.matching.specs.Grouping.{Finder, highest_below, item_at, joined_at, j
 pub read_at : (xs : List Item) (i : ℕ) (x : Item) → i < length xs → x ≡ get_or xs i x → item_at xs i ≡ x
 read_at xs i x lt is = get_or_default xs i blank x lt ∙ sym is
 
--- what is found stands below
-pub highest_at : (test : Item → Bool) (n : ℕ) (xs : List Item) (j : ℕ) → highest_below test n xs ≡ Some j → j < n
+-- what is found stands below, and passes
+pub highest_at : (test : Item → Bool) (n : ℕ) (xs : List Item) (j : ℕ) → highest_below test n xs ≡ Some j → (j < n) × (test (item_at xs j) ≡ true)
 highest_at test zero xs j e = cc
-highest_at test (suc n) xs j e = go (test (item_at xs n)) (highest_at test n xs j) e
-  where
-    go : (b : Bool) → (highest_below test n xs ≡ Some j → j < n) → mathlib.Core.Bool.cond b (Some n) (highest_below test n xs) ≡ Some j → j < suc n
-    go true lower e = let q : n ≡ j = cc in omega arith
-    go false lower e = let l = lower e in omega arith
+highest_at test (suc n) xs j e =
+    ⊎_elim
+    (λ t. let s : Some n ≡ Some j = sym (cond-true (test (item_at xs n)) (Some n) (highest_below test n xs) t) ∙ e in
+    let q : n ≡ j = cc in (omega arith, ap (λ k. test (item_at xs k)) (sym q) ∙ t))
+    (λ f. let r = highest_at test n xs j (sym (cond-false (test (item_at xs n)) (Some n) (highest_below test n xs) f) ∙ e) in (omega arith, r.1))
+    (cases_Bool (test (item_at xs n)))
 
 -- where a pass stands after n positions
 abbrev pub Passing : Finder → ℕ → List Item → List Item → ℕ → Type 0

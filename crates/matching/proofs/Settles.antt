@@ -120,10 +120,17 @@ pairing permits =
       );
     }
 
-pub none_to_pair : (permits : Entry → Entry → Bool) (xs ys : List Item) → ys ≡ if_few xs (matched permits xs) xs → length xs ≤ MOST_ITEMS → NoneToPair permits ys
-none_to_pair permits xs ys e few =
-    subst (NoneToPair permits) (sym (e ∙ cond-true _ _ _ (le-leb _ _ few))) (λ i j li oi oj p.
+pub none_to_pair : (permits : Entry → Entry → Bool) (xs ys : List Item) → ys ≡ matched permits xs → NoneToPair permits ys
+none_to_pair permits xs ys e =
+    subst (NoneToPair permits) (sym e) (λ i j li oi oj p.
     none_fits (partner_of permits) (Pairing permits) (pairing permits) (length xs) xs (omega arith) i j (omega (arith, length_paired (partner_of permits) (length xs) xs)) (oi, and_from _ _ oj p))
+
+-- what a pass leaves that keeps to the items of a table
+few_passed : (xs ys passed : List Item) → ys ≡ if_few xs passed xs → length xs ≤ MOST_ITEMS → ys ≡ passed
+few_passed xs ys passed e few = e ∙ cond-true _ _ _ (le-leb _ _ few)
+
+pub none_to_pair_few : (permits : Entry → Entry → Bool) (xs ys : List Item) → ys ≡ if_few xs (matched permits xs) xs → length xs ≤ MOST_ITEMS → NoneToPair permits ys
+none_to_pair_few permits xs ys e few = none_to_pair permits xs ys (few_passed xs ys (matched permits xs) e few)
 
 -- a reversal and an item before it that it undoes
 abbrev Undoing : List Item → ℕ → ℕ → Type 0
@@ -142,7 +149,10 @@ undoing =
       );
     }
 
-pub none_to_fold : (xs ys : List Item) → ys ≡ if_few xs (folded xs) xs → length xs ≤ MOST_ITEMS → NoneToFold ys
-none_to_fold xs ys e few =
-    subst NoneToFold (sym (e ∙ cond-true _ _ _ (le-leb _ _ few))) (λ i j li lj r u.
+pub none_to_fold : (xs ys : List Item) → ys ≡ folded xs → NoneToFold ys
+none_to_fold xs ys e =
+    subst NoneToFold (sym e) (λ i j li lj r u.
     none_fits original_of Undoing undoing (length xs) xs (omega arith) i j (omega (arith, length_paired original_of (length xs) xs)) (lj, r, u))
+
+pub none_to_fold_few : (xs ys : List Item) → ys ≡ if_few xs (folded xs) xs → length xs ≤ MOST_ITEMS → NoneToFold ys
+none_to_fold_few xs ys e few = none_to_fold xs ys (few_passed xs ys (folded xs) e few)

@@ -1,9 +1,9 @@
 -- How far a sum of entries can lie from nought, what that says of a balance, and that the law lasts.
-use Rattle.std.proofs.Common.{◌≡◌, ℕ, ◌*◌, ◌≤◌, List, [], ◌∷◌, ◌++◌, length, ℤ, pos, ◌+ℤ◌, neg_ℤ, ◌≤ℤ◌, ◌∙◌, arith, w64, SFits}
+use Rattle.std.proofs.Common.{◌≡◌, ℕ, ◌*◌, ◌≤◌, List, [], ◌∷◌, ◌++◌, length, ℤ, pos, ◌+ℤ◌, neg_ℤ, ◌≤ℤ◌, Some, ap, ◌∙◌, arith, w64, SFits}
 use Rattle.std.proofs.lemmas.Int.{ints}
 use Rattle.domain.specs.Limits.{InAmount}
 use Rattle.domain.specs.declared.entry.Entry.{Entry}
-use Rattle.source.specs.Statement.{Statement, Lawful, moved, total, onward, rest}
+use Rattle.source.specs.Statement.{Statement, Lawful, moved, total, first, first_of, onward, rest}
 
 -- within n amounts of nought
 pub record Near (n : ℕ) (z : ℤ) : Type 0 where
@@ -38,3 +38,11 @@ rest_length (e ∷ es) = omega arith
 -- the law lasts
 pub lawful_moved : (s : Statement) → Lawful s → Lawful (moved s)
 lawful_moved s l = record { numbered = l.numbered; balanced = onward_rest s.remaining s.reached ∙ l.balanced; few = omega (arith, rest_length s.remaining, l.few) }
+
+onward_first : (es : List Entry) (z : ℤ) (e : Entry) → Some e ≡ first es → onward es z ≡ z +ℤ e.amount.minor
+onward_first [] z e h = absurd (let n : ◌≡◌ {A = ℕ} 0 1 = cc in omega arith)
+onward_first (x ∷ es) z e h = let p : x ≡ e = cc in ap (λ y. z +ℤ y.amount.minor) p
+
+-- an entry moves the balance by its amount
+pub moved_reached : (s t : Statement) (e : Entry) → Some e ≡ first_of s → t ≡ moved s → t.reached ≡ s.reached +ℤ e.amount.minor
+moved_reached s t e h m = ap (λ u. u.reached) m ∙ onward_first s.remaining s.reached e h
